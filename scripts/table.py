@@ -108,6 +108,7 @@ TRIES = [
     Part("bounds", "tries.bounds", "the bounds against painted stacks and counted instructions"),
     Part("diagnose", "tries/diagnose", "how often tools/diagnose names what was planted in recordings"),
     Part("faults", "tries.faults", "each call of the program to the system fails in turn"),
+    Part("hosts", "tries.hosts", "a sweep and a campaign on Dask over two hosts, a sweep on MPI"),
     Part("inputs", "tries.inputs", "a hundred thousand random inputs"),
     Part("report", "tries.report", "the pages of tools/report in a browser"),
     Part("slurm", "tries/slurm", "the recipe for Slurm of tools/README"),

@@ -9,6 +9,7 @@ from __future__ import annotations
 
 from collections.abc import Iterable, Iterator
 from dataclasses import fields
+from types import NoneType
 from typing import TYPE_CHECKING, Any, get_args, get_type_hints
 
 import numpy as np
@@ -22,9 +23,9 @@ if TYPE_CHECKING:
     import pandas
 
 Array = npt.NDArray[np.void]
-Value = Reading | Row | Display | Causes
-Values = Array | Iterable[Value]
-KINDS: tuple[type[Value], ...] = (Row, Reading, Display, Causes)
+Item = Reading | Row | Display | Causes
+Items = Array | Iterable[Item]
+KINDS: tuple[type[Item], ...] = (Row, Reading, Display, Causes)
 Columns = dict[str, tuple[Any, bool]]  # each with its type and whether it may be missing
 BY_DEFAULT = {"accel_cm_s2": 0, "under_mm_s": 0}
 
@@ -42,7 +43,7 @@ def columns_of(kind: type) -> Columns:
     """The columns of a kind of values."""
     found: Columns = {}
     for name, hint in HINTS[kind].items():
-        alone = next((each for each in get_args(hint) if each is not type(None)), hint)
+        alone = next((each for each in get_args(hint) if each is not NoneType), hint)
         if alone is Cause:
             found |= {f"{name}_{each}": (of, of is int) for each, (of, _) in columns_of(Cause).items()}
         else:
@@ -86,7 +87,7 @@ def is_frame(values: Any) -> bool:
     return hasattr(values, "columns") and hasattr(values, "to_numpy")
 
 
-def array_of(values: Any, *kinds: type[Value]) -> Array:
+def array_of(values: Any, *kinds: type[Item]) -> Array:
     """An array of values of one of some kinds: the array itself, or a copy of values or of a frame. KindError of
     others."""
     if isinstance(values, np.ndarray):
@@ -104,11 +105,11 @@ def array_of(values: Any, *kinds: type[Value]) -> Array:
                 for i, value in enumerate(held):
                     made[i] = tuple(value.numbers().values() if isinstance(value, Reading) else flat(value))
                 return made
-    due = " or ".join(f"sdm.{kind.__name__}" for kind in kinds)
+    due = " or ".join(kind.__name__ for kind in kinds)
     raise KindError(f"expected an array, a frame or a list of {due}, and not {shown(values)}")
 
 
-def array(values: Values) -> Array:
+def array(values: Items) -> Array:
     """Rows, readings, what is shown or causes as an array, a frame of rows or readings too."""
     return array_of(values, *KINDS)
 
@@ -129,7 +130,7 @@ def columns_in(frame: pandas.DataFrame, kind: type) -> dict[str, Any]:
     }
 
 
-def of_columns(kind: type[Value], columns: dict[str, Any]) -> Array:
+def of_columns(kind: type[Item], columns: dict[str, Any]) -> Array:
     """An array from its columns."""
     held = dict(zip(columns, np.broadcast_arrays(*map(np.asarray, columns.values()))))
     made = np.zeros(np.atleast_1d(next(iter(held.values()))).shape, TYPES[kind])
@@ -192,7 +193,7 @@ def records_in(records: Any) -> list[Record]:
     return list(records_of(records) if isinstance(records, str | bytes) else records)
 
 
-def text(rows: Values) -> str:
+def text(rows: Items) -> str:
     """Rows as the program writes them; also what is shown, causes and readings, as values."""
     if not isinstance(rows, np.ndarray) and not is_frame(rows):
         return "".join(each.text() for each in rows)
@@ -204,7 +205,7 @@ def text(rows: Values) -> str:
     return "".join(",".join(map(str, row)) + "\n" for row in zip(*columns))
 
 
-def frame(values: Values) -> pandas.DataFrame:
+def frame(values: Items) -> pandas.DataFrame:
     """Rows, readings, what is shown or causes as a DataFrame; a number that is missing is <NA>."""
     import pandas
 
@@ -223,7 +224,7 @@ def frame(values: Values) -> pandas.DataFrame:
     return pandas.DataFrame(made)
 
 
-def of_structs(structs: Array, kind: type[Value]) -> Array:
+def of_structs(structs: Array, kind: type[Item]) -> Array:
     """An array of values from the structs of c/sdm.h."""
     made = np.zeros(len(structs), TYPES[kind])
     for name, (of, may) in COLUMNS[kind].items():

@@ -23,7 +23,7 @@ from importlib import import_module
 from pathlib import Path
 from typing import Any
 
-from sdm.engine import Progress, outcomes
+from sdm.engine import ProgressLine, outcomes
 from sdm.laboratory.cases import Case, case_of, difference, text_of
 from sdm.laboratory.program import Fault, Result, add_program, built
 from sdm.laboratory.statistics import Figures, Statistics, figures_of, microseconds_of, statistics_of
@@ -87,7 +87,7 @@ def run(
 ) -> int:
     """Runs journeys by an executor, or by so many processes: how many were run. Raises Fault where one can't be."""
     held = list(folders)
-    told = Progress("journeys", len(held), progress)
+    told = ProgressLine("journeys", len(held), progress)
     try:
         with closing(outcomes(partial(judge, program), held, executor=executor, processes=processes)) as made:
             for folder, fault, why in made:
@@ -136,7 +136,7 @@ def statistics(folder: str | os.PathLike[str]) -> Statistics:
 
 def counted(folders: list[Path], top: Path, progress: bool, processes: int | None = None) -> Statistics:
     """Some journeys in numbers, counted by processes of this host."""
-    told, found = Progress("journeys counted", len(folders), progress), dict[Path, Figures]()
+    told, found = ProgressLine("journeys counted", len(folders), progress), dict[Path, Figures]()
     try:
         with closing(outcomes(partial(figures_or_fault, top), folders, processes=processes)) as made:
             for folder, figures, why in made:

@@ -38,13 +38,13 @@ from sdm.laboratory.walk import read, write
 
 if TYPE_CHECKING:
     import pandas
-    from sdm.arrays import Values
+    from sdm.arrays import Items
 
 NAMES = {name: f"{name}_{unit.replace('/', '')}" for name, unit in UNITS.items()}  # of columns as sdm.Row has them
 
 
 def compare(
-    rows: Values,
+    rows: Items,
     recording: str | os.PathLike[str],
     mapping: str | os.PathLike[str] | None = None,
     *,

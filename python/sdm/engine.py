@@ -2,8 +2,8 @@
 sweep and a campaign are both run by it.
 
 Jobs go out in batches of about BATCH seconds, and come back as they end. Of a batch whose process ended, or that can't
-be handed over, each job goes out again alone, so that the one at fault is found. No process outlives the one that began
-it: each watches for its end.
+be handed over, each job goes out again alone, once, so that the one at fault is found. No process outlives the one that
+began it: each watches for its end.
 """
 from __future__ import annotations
 
@@ -33,6 +33,10 @@ BAR = 24  # characters
 
 class Ended(Exception):
     """A process ended before its job did."""
+
+
+class Alone(list[Any]):
+    """A batch of one job that is tried again."""
 
 
 def batch(do: Do, jobs: list[Any]) -> Made:
@@ -189,28 +193,28 @@ def outcomes(
 
 def outcomes_by(crew: Processes | Given, jobs: Iterable[Any]) -> Iterator[Outcome]:
     """The outcomes of jobs by a crew: batches of a size that grows to BATCH seconds."""
-    left, alone, size = iter(jobs), list[Any](), 1
+    left, alone, size = iter(jobs), list[Alone](), 1
     while True:
         while crew.has_room():
-            batch_of = [alone.pop()] if alone else list(islice(left, size))
-            if not batch_of:
+            held = alone.pop() if alone else list(islice(left, size))
+            if not held:
                 break
-            crew.send(batch_of)
+            crew.send(held)
         if not crew.is_busy():
             return
         for held, made, why in crew.came():
             if made is not None:
                 size = max(1, min(2 * size, round(BATCH * len(held) / max(made[1], 1e-9))))
                 yield from ((job, outcome, None) for job, outcome in zip(held, made[0]))
-            elif len(held) > 1:
-                alone += held
-            else:
+            elif isinstance(held, Alone):
                 yield held[0], None, why
+            else:
+                alone += (Alone([job]) for job in held)
 
 
-class Progress:
-    """Tells on standard error how many jobs are done, how many a second, and the time left: as a bar that is drawn again
-    at a terminal, in a line now and then elsewhere. What is soon done is told nothing of."""
+class ProgressLine:
+    """Tells on standard error how many jobs are done, how many a second, and the time left: as a bar that is drawn
+    again at a terminal, in a line now and then elsewhere. What is soon done is told nothing of."""
 
     def __init__(self, what: str, total: int | None, is_told: bool = True) -> None:
         self.what, self.total, self.is_told = what, total, is_told

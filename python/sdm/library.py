@@ -208,8 +208,8 @@ class Supervisor:
     """A supervisor of a journey: open it over a data part, and hand it what comes in the order in which it comes.
 
     Each call for one record either does what it says, or raises SdmError with its status, or KindError, and changes
-    nothing. One for many records ends at the first that is refused, and those before it stand. It may be used by several
-    threads, one call after the other; copies of it there are none."""
+    nothing. One for many records ends at the first that is refused, and those before it stand. It may be used by
+    several threads, one call after the other; copies of it there are none."""
 
     def __init__(self, data: Data, library: ctypes.CDLL | None = None) -> None:
         """Opens it over a data part (docs/FORMATS.md), a TOML text or a table. BAD_DATA and REFUSED carry the program's
@@ -247,9 +247,9 @@ class Supervisor:
         """Judges many readings, an array of the type sdm.READING, a frame or a list of them, and answers an array of as
         many rows, of the type sdm.ROW.
 
-        KindError where it is something else. Where a reading is refused, those before it were judged: SdmError has their
-        rows as `rows`, and so many are there."""
-        from sdm.arrays import READING, array_of, misfits, of_structs
+        KindError where it is something else. Where a reading is refused, those before it were judged: SdmError has
+        their rows as `rows`, and so many are there."""
+        from sdm.arrays import array_of, misfits, of_structs
         import numpy as np
 
         given = array_of(readings, Reading)

@@ -35,7 +35,7 @@ from sdm.exact import Outcome, number_word
 from sdm.records import Data, input_of
 
 if TYPE_CHECKING:
-    from sdm.arrays import Values
+    from sdm.arrays import Items
     from sdm.runs import Records
 
 TERMINALS = {".svg": "svg", ".png": "pngcairo fontscale 0.75"}
@@ -136,7 +136,7 @@ class Picture:
 def plot(
     data: Data,
     records: Records,
-    rows: Values | None = None,
+    rows: Items | None = None,
     *,
     times: tuple[float, float] = ALL,
     places: tuple[float, float] | None = None,

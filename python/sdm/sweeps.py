@@ -16,7 +16,7 @@ from pathlib import Path
 from typing import IO, Any
 
 from sdm.arrays import Array, array_of, is_frame, readings, records_in, text
-from sdm.engine import Progress, outcomes
+from sdm.engine import ProgressLine, outcomes
 from sdm.errors import FormError, KindError
 from sdm.records import Data, Reading, toml_of
 from sdm.rows import Row, SdmError
@@ -26,12 +26,12 @@ Variation = Mapping[str, Any]
 Variations = Mapping[str, Sequence[Any]] | Iterable[Variation]
 Drive = Callable[[dict[str, Any]], Any]  # a data part to rows, or to what `measure` takes
 Measure = Callable[[Any], Mapping[str, Any]]
-Result = dict[str, Any]
+Swept = dict[str, Any]
 Numbered = tuple[int, Variation]
 ENTRY = re.compile(r"\[(\d+)\]")
 
 
-def summary(rows: Array) -> Result:
+def summary(rows: Array) -> Swept:
     """What a sweep tells of a journey where nothing else is asked for: in how many rows each command holds and how many
     are covered, and the time of the first emergency brake command, None where there is none."""
     counts = {name: int(rows[name].sum()) for name in ("tco", "sb", "eb", "covered")}
@@ -73,7 +73,7 @@ def variations_of(variations: Variations) -> tuple[Iterable[Variation], int | No
     return variations, len(variations) if isinstance(variations, Sized) else None
 
 
-def outcome(table: dict[str, Any], drive: Drive, measure: Measure, job: Numbered) -> Result:
+def outcome(table: dict[str, Any], drive: Drive, measure: Measure, job: Numbered) -> Swept:
     """A variation with what is measured. Where its data or a record are refused, or anything else goes wrong, `fault`
     says why."""
     variation = job[1]
@@ -105,8 +105,8 @@ def drive_of(records: Records | Drive) -> Drive:
 
 
 class Kept:
-    """A file of the results of a sweep, a line of JSON for each, so that one that was ended goes on. Its first line says
-    of which data, journey and measure it is."""
+    """A file of the results of a sweep, a line of JSON for each, so that one that was ended goes on. Its first line
+    says of which data, journey and measure it is."""
 
     def __init__(self, path: Path, *parts: bytes) -> None:
         """Raises FormError where the file is of other parts."""
@@ -116,7 +116,7 @@ class Kept:
         first, *lines = data[:whole].decode().splitlines() or [head]
         if first != head:
             raise FormError(f"{path} is kept of another sweep: its data, its journey or its measure is another one")
-        self.results: dict[str, Result] = {}
+        self.results: dict[str, Swept] = {}
         for line in lines:
             variation, result = json.loads(line)
             self.results[json.dumps(variation)] = {**variation, **result}
@@ -131,12 +131,12 @@ class Kept:
         self.file.write(line + "\n")
         self.file.flush()
 
-    def add(self, variation: Variation, result: Result) -> None:
+    def add(self, variation: Variation, result: Swept) -> None:
         """Keeps a result."""
         rest = {name: value for name, value in result.items() if name not in variation}
         self.write(json.dumps([variation, rest], default=plain))
 
-    def of(self, variation: Variation) -> Result | None:
+    def of(self, variation: Variation) -> Swept | None:
         """The result of a variation, where it is there."""
         return self.results.get(json.dumps(variation, default=plain))
 
@@ -170,7 +170,7 @@ def numbered_results(
     executor: Any,
     keep: str | os.PathLike[str] | None,
     progress: bool,
-) -> Generator[tuple[int, Result], None, None]:
+) -> Generator[tuple[int, Swept], None, None]:
     """The results of a sweep as they come, each with the number of its variation."""
     table = tomllib.loads(data if isinstance(data, str) else data.decode()) if isinstance(data, str | bytes) else data
     table, drive = dict(table), drive_of(records)
@@ -178,7 +178,7 @@ def numbered_results(
     kept = None
     if keep is not None:
         kept = Kept(Path(keep), toml_of(table), journey_text(drive).encode(), name_of(measure).encode())
-    there: list[tuple[int, Result]] = []  # of those that are passed over, since they are kept
+    there: list[tuple[int, Swept]] = []  # of those that are passed over, since they are kept
 
     def left() -> Iterator[Numbered]:
         for number, variation in enumerate(each):
@@ -188,7 +188,7 @@ def numbered_results(
             else:
                 there.append((number, result))
 
-    told, do = Progress("variations", count, progress), partial(outcome, table, drive, measure)
+    told, do = ProgressLine("variations", count, progress), partial(outcome, table, drive, measure)
     try:
         with closing(outcomes(do, left(), **crew(processes, executor, count))) as made:
             for (number, variation), result, why in made:
@@ -205,7 +205,7 @@ def numbered_results(
             kept.file.close()
 
 
-def passed(there: list[tuple[int, Result]], told: Progress) -> Iterator[tuple[int, Result]]:
+def passed(there: list[tuple[int, Swept]], told: ProgressLine) -> Iterator[tuple[int, Swept]]:
     """The results that were there, which are told and forgotten."""
     while there:
         told.count(is_kept=True)
@@ -227,7 +227,7 @@ def sweep(
     executor: Any = None,
     keep: str | os.PathLike[str] | None = None,
     progress: bool = True,
-) -> list[Result]:
+) -> list[Swept]:
     """Runs a journey for each variation of its data part: a dict for each, of which pandas.DataFrame makes a table.
 
     `records` are those of the journey, or a function that takes a data part, as a table, and answers rows or anything
@@ -251,7 +251,7 @@ def sweep_as_completed(
     executor: Any = None,
     keep: str | os.PathLike[str] | None = None,
     progress: bool = False,
-) -> Generator[Result, None, None]:
+) -> Generator[Swept, None, None]:
     """The results of `sweep` as they come; variations are taken as they are needed."""
     with closing(numbered_results(data, records, variations, measure, processes, executor, keep, progress)) as results:
         yield from (result for _, result in results)

@@ -21,7 +21,7 @@ from scripts.pages.specs import ROOT
 PYTHON = ROOT / "python"
 DOOR, MODEL, MAKERS = "sdm.exact", "sdm_evidence.model", "sdm_evidence.makers"
 # What a caller of the supervisor uses, and what of other packages it may import.
-OF_CALLERS = {f"sdm.{name}" for name in "arrays library records rows runs sweeps toml_text".split()}
+OF_CALLERS = {f"sdm.{name}" for name in "arrays engine errors library records rows runs sweeps toml_text".split()}
 OF_OTHERS = {"numpy", "pandas"}
 
 

@@ -13,7 +13,7 @@ from pathlib import Path
 from sdm.laboratory.program import TOP, Fault
 
 PYTHON_TESTS = TOP / "python" / "tests"
-NEEDED = {"pictures": "gnuplot", "laboratory": "parallel"}
+NEEDED = {"pictures": "gnuplot"}
 
 
 def passed(folder: Path, **environment: str) -> int:

@@ -80,7 +80,7 @@ def is_written(struct: Struct) -> bool:
 def enum(name: str, members: Mapping[str, int]) -> str:
     """The numbers of an enum."""
     kind = ENUMS[name]
-    numbers = {member.name: number for number, member in enumerate(kind)}
+    numbers = {member: number for number, member in enumerate(kind.__members__)}
     same = sorted(members.values()) == list(numbers.values())
     must(same, f"python/sdm/rows.py has other numbers than {name} of c/sdm.h")
     told = "".join(f"  {each}: {number},\n" for each, number in numbers.items())

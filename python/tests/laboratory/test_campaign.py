@@ -22,7 +22,6 @@ WRITES = 'cat > "$0.$$"; cmp -s "$0.$$" {0}/approach/input && cat {0}/approach/r
 JOURNEYS = {"a": ("1\n", "", "0"), "b": ("2\n3\n", "", "0"), "c": ("4\nbad\n", "sdm: bad event 2: line\n", "7")}
 
 
-@unittest.skipUnless(shutil.which("parallel"), "GNU parallel is not installed; scripts/setup installs it")
 class Campaign(unittest.TestCase):
     def setUp(self):
         room = tempfile.TemporaryDirectory()

@@ -177,7 +177,7 @@ class Numbers(unittest.TestCase):
                 self.assertIn(told, self.told(kind, lambda: sdm.readings(**given | change)))
         for values in (5, "abc", None, [5], np.zeros(3), pandas.DataFrame({"time_ds": [1]})):
             self.assertIn(
-                "expected an array, a frame or a list of sdm.Row", self.told(sdm.KindError, lambda: sdm.frame(values))
+                "expected an array, a frame or a list of Row", self.told(sdm.KindError, lambda: sdm.frame(values))
             )
 
     def test_a_text_is_told_as_values_are(self):
