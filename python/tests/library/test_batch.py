@@ -27,6 +27,11 @@ def many(count):
     )
 
 
+def values_of(readings):
+    """Readings as values."""
+    return [Reading(*reading) for reading in readings.tolist()]
+
+
 class Batch(unittest.TestCase):
     def test_it_judges_as_one_by_one(self):
         readings = many(3_000)
@@ -41,8 +46,45 @@ class Batch(unittest.TestCase):
         readings["time_ds"][60] = 0
         with Supervisor(DATA) as supervisor, self.assertRaises(SdmError) as caught:
             supervisor.cycles(readings)
-        self.assertEqual((caught.exception.status, str(caught.exception)), (Status.TIME_BACK, "reading 61: time back"))
+        self.assertEqual(caught.exception.status, Status.TIME_BACK)
+        self.assertTrue(str(caught.exception).startswith("reading 61: time back: time_ds 0 ds, est_mm "))
         self.assertEqual(sdm.text(caught.exception.rows), sdm.text(sdm.run(DATA, readings[:60])))
+
+    def test_a_number_out_of_its_range_is_named(self):
+        for name, value, told in (
+            ("min_mm", 2**40, "min_mm is 1,099,511,627,776 mm, expected -10,000,000 to 3,"),
+            ("speed_mm_s", -1, "speed_mm_s is -1 mm/s, expected 0 to 138,888 mm/s"),
+        ):
+            readings = many(100)
+            readings[name][60] = value
+            for call in (lambda: sdm.run(DATA, readings), lambda: sdm.run(DATA, values_of(readings))):
+                with self.assertRaises(SdmError) as caught:
+                    call()
+                self.assertEqual((caught.exception.status, len(caught.exception.rows)), (Status.OUT_OF_RANGE, 60))
+                self.assertRegex(str(caught.exception), r"^(reading|record) 61: out of range: ")
+                self.assertIn(told, str(caught.exception))
+
+    def test_readings_of_any_form(self):
+        readings = many(50)
+        due = sdm.text(sdm.run(DATA, readings))
+        values = values_of(readings)
+        for other in (values, sdm.frame(readings), iter(values), "".join(value.text() for value in values)):
+            self.assertEqual(sdm.text(sdm.run(DATA, other)), due)
+        with Supervisor(DATA) as supervisor:
+            self.assertEqual(sdm.text(supervisor.cycles(values)), due)
+
+    def test_what_is_shown_and_causes_are_those_of_single_calls(self):
+        readings = many(2_000)
+        shown, told = sdm.display(DATA, readings), sdm.causes(DATA, readings)
+        with Supervisor(DATA) as supervisor:
+            values = []
+            for reading in values_of(readings):
+                supervisor.cycle(reading)
+                values.append((supervisor.display(reading), supervisor.causes(reading)))
+        for array, held in ((shown, [each for each, _ in values]), (told, [each for _, each in values])):
+            self.assertTrue(sdm.frame(array).equals(sdm.frame(held)))
+        self.assertGreater(sdm.frame(shown).distance_mm.notna().sum(), 50)
+        self.assertGreater((told["emer_rule"] == "target").sum(), 10)
 
     def test_how_long_it_takes(self):
         """A step of Python for each reading would take several times as long; the figure is told, and none asserted."""

@@ -130,7 +130,6 @@ class Misuse(unittest.TestCase):
             ("restrict", vars(SOME)),
             ("cycle", Reading(0.5, 0, 0, 0, 0)),
             ("revoke", Revocation("1")),
-            ("cycles", [SOME]),
             ("cycles", np.zeros(3)),
             ("cycles", np.zeros((2, 2), READING)),
             ("cycles", np.zeros(3, READING.newbyteorder())),
@@ -141,20 +140,24 @@ class Misuse(unittest.TestCase):
         for data in (5, None, [1], {"version": 1.5}, {"version": object()}, bytearray(b"version = 1")):
             with self.assertRaises(TypeError, msg=data):
                 Supervisor(data)
-        with self.assertRaises(ValueError):
+        with self.assertRaises(sdm.FormError):
             sdm.run(DATA, "read,1,2\n")
         for copied in (copy.copy, copy.deepcopy, pickle.dumps):
             with self.assertRaises(TypeError):
                 copied(self.supervisor)
 
-    def test_columns_of_readings(self):
-        for columns in ({}, {"time_ds": [1]}, vars(SOME) | {"more": 1}, vars(SOME) | {"time_ds": [0.5]}):
-            with self.assertRaises(TypeError):
-                sdm.readings(**columns)
-        for name, value in (("time_ds", -1), ("est_mm", 2**31), ("under_mm_s", 2**32)):
-            self.assertEqual(the_status(lambda: sdm.readings(**vars(SOME) | {name: value})), Status.OUT_OF_RANGE)
-        with self.assertRaises(ValueError):
-            sdm.readings(**vars(SOME) | {"time_ds": [1, 2], "est_mm": [1, 2, 3]})
+    def test_messages_name_the_field_its_value_and_what_is_expected(self):
+        for call, record, told in (
+            ("cycle", Reading(10, 5, 6, 5, 0), "out of range: min_mm is 6 mm, expected -10,000,000 to 5 mm"),
+            ("cycle", Reading(-1, 0, 0, 0, 0), "out of range: time_ds is -1 ds, expected 0 to 100,000,000 ds"),
+            ("end", End(2, 1), "supervised location before end: eoa_cm 2 cm, svl_cm 1 cm, release_kmh 0 km/h"),
+            ("end", End(0, 0, 501), "bad speed: release_kmh is 501 km/h, expected 0 to 500 km/h"),
+            ("restrict", Restriction(65_536, 0, 1, 5), "out of range: id is 65,536, expected 0 to 65,535"),
+            ("revoke", Revocation(7), "identity unknown: id 7"),
+        ):
+            with self.assertRaises(SdmError) as caught:
+                getattr(self.supervisor, call)(record)
+            self.assertEqual(str(caught.exception), told)
 
     def test_a_library_that_is_none(self):
         from sdm.library import load
