@@ -17,7 +17,7 @@ import pandas, sdm
 data = Path("examples/realistic/input").read_text().partition("%%")[0]
 place = range(3_200_000, 5_200_000, 20_000)
 readings = sdm.readings(time_ds=range(0, 500, 5), est_mm=place, min_mm=place, max_mm=place, speed_mm_s=40_000)
-variations = {"train.band.1.emergency": range(60, 110, 2), "train.emergency_time": range(0, 80, 2)}
+variations = {"train.band[2].emergency": range(60, 110, 2), "train.emergency_time": range(0, 80, 2)}
 summaries = pandas.DataFrame(sdm.sweep(data, readings, variations))
 sdm.plot(data, readings).save("journey.svg")
 """
@@ -27,7 +27,7 @@ class Page(unittest.TestCase):
     def test_its_examples(self):
         with tempfile.TemporaryDirectory() as room, contextlib.chdir(room):
             os.symlink(EXAMPLES, "examples")
-            table, sweep, loop, recording, report = BLOCKS
+            table, sweep, loop, stops, recording, report = BLOCKS
             names = {}
             exec(table, names)
             self.assertEqual(sdm.text(names["rows"]), (EXAMPLES / "interventions" / "rows").read_text())
@@ -46,8 +46,16 @@ class Page(unittest.TestCase):
                 (names["first_brake"].diff().iloc[1:] <= 0).all(axis=None)
             )  # one that builds up longer sooner
             exec(loop, names)
-            self.assertTrue(5_005 < names["stopped"] < 5_006 and names["driven"][-1].eb)
+            self.assertTrue(5_005.04 < names["stopped"] < 5_005.06 and names["driven"][-1].eb)
+            self.assertIn(
+                4_941_046, [row.ebi_mm for row in names["driven"]]
+            )  # and not 4,953,124, of a train that gains nothing
+            exec(stops, names)
+            first, second = names["stops"].stands_m
+            self.assertEqual(second, names["stopped"])
+            self.assertNotEqual(first, second)
             exec(recording, names)
+            self.assertTrue((names["differences"].apart.dropna() > 0).all())
             self.assertEqual(sdm.text(names["supervised"]), (EXAMPLES / "recording" / "rows").read_text())
             exec(report, names)
             self.assertIn("200 rows compared", Path("report.html").read_text())
