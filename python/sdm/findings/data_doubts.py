@@ -48,7 +48,7 @@ def gradient_doubts(data: Data) -> list[DataDoubt]:
         return []
     steepest, (first, grad) = max(abs(grad) for _, grad in slopes), slopes[0]
     key: KeyPath = ("track", "gradient", first, "grad")
-    texts = f"{len(slopes)} gradients of at most {steepest / 10:g} ‰, the first {grad / 10:g} ‰"
+    texts = f"{len(slopes)} gradient{'s' * (len(slopes) > 1)} of at most {steepest / 10:g} ‰, the first {grad / 10:g} ‰"
     if steepest < FLATTEST:
         hint = f"version 2 has tenths of a per mille: as per mille the first would be {10 * grad}"
         return [(key, texts, "some gradient of 1 ‰ or more, where a track has any", hint)]
