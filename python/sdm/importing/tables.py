@@ -89,15 +89,16 @@ def decimal_of(text: str, decimal: str) -> Fraction | None:
 
 def table_of(path: Path, delimiter: str, decimal: str, findings: Findings) -> Table:
     """The lines of a file with a header. A file that can't be read, lines that are too short or too long and a header
-    with a name twice are faults."""
+    with a name twice are faults. What is no UTF-8 is read as Windows-1252, with a warning."""
     try:
         text = path.read_bytes().decode("utf-8-sig")
     except OSError as why:
         findings.fault(FieldPlace(path.name), why.strerror, "a file that can be read")
         return Table(path.name, decimal, (), ())
     except UnicodeDecodeError as why:
-        findings.fault(FieldPlace(path.name), f"the byte {why.object[why.start]:#04x}", "a text in UTF-8")
-        return Table(path.name, decimal, (), ())
+        found = f"the byte {why.object[why.start]:#04x} is none of UTF-8, so the file is read as Windows-1252"
+        findings.warn(FieldPlace(path.name), found)
+        text = why.object.decode("cp1252", "replace")
     reader = csv.reader(io.StringIO(text, newline=""), delimiter=delimiter)
     columns = tuple(name.strip() for name in next(reader, []))
     twice = sorted({name for name in columns if name and columns.count(name) > 1})

@@ -4,10 +4,12 @@ from datetime import datetime, timedelta
 from fractions import Fraction
 
 STAMP = re.compile(
-    r"(?P<day>\d{4}-\d{2}-\d{2})[T ](?P<time>\d{2}:\d{2}:\d{2})(?:[.,](?P<part>\d+))? ?(?P<zone>Z|[+-]\d{2}:?\d{2})?",
+    r"(?P<day>\d{4}-\d{2}-\d{2}|\d{2}\.\d{2}\.\d{4})[T ](?P<time>\d{2}:\d{2}(?::\d{2}(?:[.,](?P<part>\d+))?)?)"
+    r" ?(?P<zone>Z|[+-]\d{2}:?\d{2})?",
     re.ASCII,
 )
-FORMS = "a number, or a timestamp such as 2026-03-04T10:00:00.0 or 2026-03-04 10:00:00,0"
+STAMPS = "a timestamp such as 2026-03-04T10:00:00.0, 2026-03-04 10:00:00,0 or 04.03.2026 10:00"
+FORMS = f"a number, or {STAMPS}"
 BEGINNING = datetime(2000, 1, 1)
 
 
@@ -19,7 +21,8 @@ class Stamp:
         found = STAMP.fullmatch(text)
         if found is None:
             raise ValueError(FORMS)
-        at = datetime.fromisoformat(f"{found['day']}T{found['time']}")
+        day = "-".join(reversed(found["day"].split(".")))  # as 04.03.2026
+        at = datetime.fromisoformat(f"{day}T{found['time'][:8]}")
         zone = found["zone"] or "Z"
         if zone != "Z":
             minutes = 60 * int(zone[1:3]) + int(zone[-2:])
@@ -49,7 +52,7 @@ class Clock:
             except ValueError:
                 raise ValueError("a number, as the first time is" if is_stamp else FORMS) from None
         if not is_stamp:
-            raise ValueError("a timestamp such as 2026-03-04T10:00:00.0 or 2026-03-04 10:00:00,0")
+            raise ValueError(STAMPS)
         try:
             stamp = Stamp(text)
         except ValueError:

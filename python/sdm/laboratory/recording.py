@@ -115,7 +115,10 @@ def time_of(clock: Clock, table: ColumnTable, text: str, decimal: str, line: int
 
 def recording_of(text: bytes, mapping: bytes | None) -> list[RecordedLine]:
     """The lines of a recording: each its number and its values by the names of a row's columns."""
-    lines = text.decode("utf-8-sig", "replace")
+    try:
+        lines = text.decode("utf-8-sig")
+    except UnicodeDecodeError:
+        lines = text.decode("cp1252", "replace")
     (delimiter, decimal, columns), is_bare = (mapping_of(mapping), False) if mapping is not None else own_mapping(lines)
     reader = csv.DictReader(io.StringIO(lines, newline=""), COLUMNS if is_bare else None, delimiter=delimiter)
     wanted = [table["column"] for table in columns.values()]

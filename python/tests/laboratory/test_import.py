@@ -9,6 +9,9 @@ import sdm
 from sdm.laboratory.clock import Clock
 from sdm_evidence.model.words import collect
 
+from sdm.importing.faults import Findings
+from sdm.importing.tables import table_of
+from sdm.laboratory.recording import recording_of
 from tests.folders import EXAMPLES
 from tests.tool import tool
 
@@ -159,6 +162,8 @@ class Times(Room):
             ("2026-03-05T00:00:00Z", 504_000),
             ("2026-03-04T09:59:59Z", -10),
             ("2026-03-04T08:30:00-0130", 0),
+            ("04.03.2026 10:00Z", 0),
+            ("04.03.2026 10:00:02,5Z", 25),
         ]:
             clock = Clock(origin="2026-03-04T10:00:00Z")
             self.assertEqual(clock.ds(text) * 100_000, round(float(ds) * 100_000), text)
@@ -180,6 +185,17 @@ class Times(Room):
             self.assertEqual((code, journey), (2, ""), second)
             self.assertIn("recording.csv, line 3, column 't': found ", told)
             self.assertIn(expected, told)
+
+    def test_a_recording_in_windows_1252(self):
+        """Its column is found, and a warning names the first byte that is none of UTF-8."""
+        text = "zeit;ort;länge\n0;1;2\n"
+        (self.room / "recording.csv").write_bytes(text.encode("cp1252"))
+        findings = Findings()
+        table = table_of(self.room / "recording.csv", ";", ",", findings)
+        self.assertEqual((table.columns, findings.faults), (("zeit", "ort", "länge"), []))
+        self.assertIn("the byte 0xe4 is none of UTF-8, so the file is read as Windows-1252", str(findings.warnings[0]))
+        lines = recording_of(text.encode("cp1252"), 'delimiter=";"\ntime.column="zeit"\nebi.column="länge"'.encode())
+        self.assertEqual(lines, [(2, {"time": 0, "ebi": 2})])
 
     def test_compare_takes_timestamps(self):
         rows = self.room / "rows"
