@@ -25,8 +25,8 @@ class Journey:
     records: str
     warnings: tuple[str, ...]
 
-    @property
     def text(self) -> str:
+        """The whole input, as the program takes it."""
         return f"{self.data}%%\n{self.records}"
 
 

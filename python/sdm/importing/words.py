@@ -28,5 +28,5 @@ def main(args: list[str]) -> int:
         return 2
     for warning in journey.warnings:
         print(f"import: warning: {warning}", file=sys.stderr)
-    print(journey.text, end="")
+    print(journey.text(), end="")
     return 0

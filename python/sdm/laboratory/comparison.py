@@ -5,7 +5,7 @@ from dataclasses import dataclass
 from fractions import Fraction
 from typing import Any
 
-from sdm.errors import FormError
+from sdm.errors import Fault, FormError
 from sdm.laboratory.recording import RecordedLine, Value
 from sdm.laboratory.rows import COLUMNS, UNITS, RowTexts
 from sdm.laboratory.texts import number
@@ -95,7 +95,10 @@ def difference(
 
 
 def differences(rows: list[RowTexts], lines: list[RecordedLine], pairs: Pairs, allowed: Allowed) -> list[Difference]:
-    """All that differs, row by row."""
+    """All that differs, row by row. Raises Fault where less than nothing is allowed."""
+    for unit, most in allowed.items():
+        if most < 0:
+            raise Fault(f"Values may be {float(most):g} {unit} apart, and expected is 0 or more.")
     columns = compared_columns(lines)
     return [each for pair in pairs for name in columns if (each := difference(rows, lines, pair, name, allowed))]
 

@@ -158,3 +158,8 @@ class Compare(unittest.TestCase):
             self.assertEqual(code, 2, fault)
             self.assertIn(fault, told)
             self.assertEqual(told.count("\n"), 1)
+
+    def test_a_tolerance_below_nothing(self):
+        for word, told in (("--mm", "-1 mm"), ("--kmh", "-1 km/h")):
+            code, _, err = tool("compare", ROWS, ROWS, word, "-1")
+            self.assertEqual((code, err), (2, f"compare: Values may be {told} apart, and expected is 0 or more.\n"))

@@ -97,7 +97,7 @@ class Stored(Room):
 
     def test_of_python(self):
         journey = sdm.import_recording(STORED / "recording.csv", STORED / "mapping.toml")
-        self.assertEqual(journey.text, (STORED / "input").read_text())
+        self.assertEqual(journey.text(), (STORED / "input").read_text())
         self.assertEqual(len(journey.warnings), 5)
         with self.assertRaises(sdm.ImportFault) as raised:
             sdm.import_recording(STORED / "none.csv", STORED / "mapping.toml")

@@ -1,4 +1,5 @@
 """tools/plot draws what the pages of examples/ work out, and refuses in a sentence what can't be drawn."""
+import base64
 import hashlib
 import os
 import re
@@ -14,6 +15,7 @@ from sdm_evidence.makers.line import a_run
 from sdm_evidence.model.words import collect
 
 from tests.folders import EXAMPLES, TOP
+from tests.laboratory.test_tables import as_row, rows_by_hand
 from tests.tool import tool
 
 APPROACH = EXAMPLES / "approach" / "input", EXAMPLES / "approach" / "rows"
@@ -319,3 +321,21 @@ class Refused(Plot):
         with mock.patch.dict(os.environ, PATH=str(self.room)):
             code, _, err = tool("plot", *APPROACH, self.room / "no.svg")
         self.assertEqual((code, err), (1, "plot: gnuplot is not installed; scripts/setup installs it.\n"))
+
+
+class FromPython(unittest.TestCase):
+    def test_rows_of_any_form_and_files_by_their_endings(self):
+        data, _, records = (EXAMPLES / "interventions" / "input").read_text().partition("%%\n")
+        rows, due = [as_row(fields) for fields in rows_by_hand()], (
+            EXAMPLES / "interventions" / "picture.svg"
+        ).read_bytes()
+        for held in (rows, sdm.array(rows), sdm.frame(rows)):
+            picture = sdm.plot(data, records, held)
+            self.assertEqual(picture.svg, due)
+        with tempfile.TemporaryDirectory() as room:
+            for ending, start in ((".svg", b"<?xml"), (".png", b"\x89PNG\r\n\x1a\n")):
+                picture.save(Path(room) / f"picture{ending}")
+                self.assertTrue((Path(room) / f"picture{ending}").read_bytes().startswith(start))
+            with self.assertRaisesRegex(sdm.FormError, "ends with '.pdf', expected .svg or .png"):
+                picture.save(Path(room) / "picture.pdf")
+        self.assertIn(base64.b64encode(due).decode(), picture._repr_html_())
