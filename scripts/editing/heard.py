@@ -93,7 +93,7 @@ class Heard:
         return self.states.get(path, "")
 
     def is_proved(self, path: str) -> bool:
-        """Whether a function is proved, but for the holes in place of the proofs of what it calls."""
+        """Whether a function is proved, except for the holes in place of the proofs of what it calls."""
         return self.state(path).startswith(PROVED)
 
     def front(self) -> list[str]:

@@ -99,7 +99,7 @@ def word(each: Argument, places: dict[str, int]) -> str:
 
 
 def failed(call: Call) -> str:
-    """What a call answers where there is no instance, for want of memory."""
+    """What a call answers where there is no instance, as memory was refused."""
     if call.result == "void":
         return ""
     is_of_handle = bool(call.arguments) and call.arguments[0].kind == HANDLE
