@@ -20,7 +20,7 @@ CHANGES = 300  # journeys over several data parts
 SAMPLE = 12  # of each so many stored journeys one is in what a target takes as C
 THREADS = 2
 ALTERED = ["approach", "display", "causes", "refused-data", "refused-opening"]  # examples whose answers are altered
-PLAIN_RULES = [rule for rule in RULES if rule != RULES[Rule.TARGET]]  # a target has numbers behind it
+PLAIN_RULES = [rule for rule in RULES if rule != Rule.TARGET]  # a target has numbers behind it
 WORDS: dict[str, dict[int, Sequence[str]]] = {  # of the columns of what each command writes
     "run": {1: STATES, 2: SUPERVISIONS},
     "display": {5: TARGETS},

@@ -112,7 +112,7 @@ def greatest_release(supervisor: Supervisor, odometer: Odometer, excess: int, eo
 
 
 def least_svl(supervisor: Supervisor, odometer: Odometer, excess: int, eoa: int, release: int) -> int | None:
-    """The nearest SvL in cm behind which a release speed in km/h has its trip place; none on the track where none is."""
+    """The nearest SvL in cm with which a release speed in km/h has its trip place, if the track has one."""
     first = eoa + -(-odometer.width_mm() // 10)
 
     def has_trip(svl: int) -> bool:
@@ -177,8 +177,8 @@ def a_next_document(rng: Random, document: Table, broken: Broken) -> Table:
 
 
 def a_start(rng: Random, supervisor: Supervisor, odometer: Odometer, stop: Stop) -> tuple[int, int]:
-    """Where a ride begins, in cm, and its greatest speed in mm/s, from where it can brake before the EOA: its estimate is
-    the release speed."""
+    """Where a ride begins, in cm, and its greatest speed in mm/s, whose estimate is the release speed: from there it can
+    brake before the EOA."""
     under = 0 if supervisor.data.national.inhibit_under_reading else odometer.under_mm_s
     speed = stop.release * NOTCHES_PER_KM_H // NOTCHES_PER_MM_S + under
     return stop.eoa - a_braking_cm(supervisor, speed) - rng.randint(1_000, 20_000), speed
@@ -267,9 +267,8 @@ def a_world_at(
 
 
 def a_release_scenario(rng: Random, made: ReleaseWorld, broken: Broken) -> Scenario:
-    """A ride whose driver creeps at the release speed. Most have nothing to spare: times, brake and odometer are as bad as
-    they may be, and the driver takes full power after the last reading before the train is
-    tripped."""
+    """A ride whose driver creeps at the release speed. Most have nothing to spare: times, brake and odometer are as bad
+    as they may be, and the driver takes full power after the last reading before the train is tripped."""
     world, odometer = made.world, made.odometer
     is_guarded = broken is Broken.NONE and rng.random() < 0.2
     late = 1 if broken is Broken.LATE else 0
