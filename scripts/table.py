@@ -106,6 +106,7 @@ SHOWN = [
 ]
 TRIES = [
     Part("bounds", "tries.bounds", "the bounds against painted stacks and counted instructions"),
+    Part("definitions", "tries.definitions", "wrong definitions are refused by the cases that their files name"),
     Part("diagnose", "tries/diagnose", "how often tools/diagnose names what was planted in recordings"),
     Part("faults", "tries.faults", "each call of the program to the system fails in turn"),
     Part("hosts", "tries.hosts", "a sweep and a campaign on Dask over two hosts, a sweep on MPI"),
