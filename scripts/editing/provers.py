@@ -66,12 +66,13 @@ def library(crate: str) -> Path:
     return CRATES / crate / "out" / "rlib" / f"{crate}.rlib"
 
 
-def words(crate: str, sources: dict[str, Path]) -> list[str]:
+def words(crate: str, sources: dict[str, Path], used: list[str] | None = None) -> list[str]:
     """The words of a check of a crate in its folder, where some crates below come as sources, by their folders, and not
-    as libraries."""
+    as libraries; of the libraries of crates.txt it may have only those that are used."""
+    handed = [*(libraries()[crate] if used is None else used), *(name for each in sources for name in libraries()[each])]
     found = [str(kit() / "bin" / "rattle"), "check", "--crate-name", crate]
     found += ["src/main.rt" if (CRATES / crate / "src" / "main.rt").exists() else "src/lib.rt"]
-    for name in ["std", *(["core"] if sources else []), *libraries()[crate]]:
+    for name in dict.fromkeys(["std", *(["core"] if sources else []), *handed]):
         if name not in sources:
             place = library(name) if name in libraries() else kit() / "rlibs" / f"{name}.rlib"
             found += ["--extern", f"{name}={place}"]

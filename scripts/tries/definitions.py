@@ -9,9 +9,10 @@
     --jobs N    so many at a time, 1 where it isn't said
 
 A trial is a file crates/CRATE/wrong-definitions/NAME.trial. Its lines `file:`, `old:` and `new:` are those of an edit
-(docs/EDITS.md), over a file of specs/. `# refused-by: CRATE FILE::CASE` names a case of proofs/FILE.antt of a crate.
-The case is checked with the case files that it needs and no others, over the sources of the crates between and the
-proved libraries of those below: so the case refuses the text, and no law's proof does."""
+(docs/EDITS.md), over a file of specs/. `# refused-by: CRATE FILE::CASE` names a case of proofs/FILE.antt of a crate. It
+is checked with the case files that it needs and no others, over the sources of the crates between and the proved
+libraries of those below: so the case refuses the text, and no law's proof does. `# refused-by: CRATE FUNCTION` names a
+law, or another function, whose proof alone is checked over such sources."""
 from __future__ import annotations
 
 import argparse
@@ -29,29 +30,41 @@ from pathlib import Path
 
 from scripts.editing.edits import Edit, Unfit
 from scripts.editing.heard import NAMES
-from scripts.editing.provers import copied, reached, words
+from scripts.editing.provers import copied, libraries, reached, words
 from scripts.pages.specs import CRATES, ROOT, crates
 
 FOLDER, RECORD = "wrong-definitions", ROOT / "docs" / "trials.csv"
 SAMPLE = 12
 MOST_SECONDS = 900
-REFUSER = re.compile(r"(\w+) (\w+)::(\S+)")
+CASE, LAW = re.compile(r"(\w+) (\w+)::(\S+)"), re.compile(r"(\w+) (\w+)")
+LIBRARY = re.compile(r"^use Rattle\.(\w+)\.", re.M)
 IMPORT = r"^use Rattle\.{crate}\.proofs\.(\w+)"
 REFUSED = re.compile(r"^(?:\./)?proofs/(\w+)\.antt:\d+:\d+: error: `([^`]+)`: (.*)$", re.M)
+CITING = """
+ghost use Rattle.std.specs.Prelude.{⊤};
+
+fn cites_the_case()
+    ensures { ⊤ }
+{
+}
+"""
+ANSWER = """use Rattle.{crate}.proofs.{file}.{{{case}}}
+use Rattle.{crate}.proofs.cites_the_case.Goals as goal
+
+pub returns : goal.returns
+returns c = ⊤.tt
+"""
 ERROR = re.compile(r"^.*\berror\b.*$", re.M)
-ENDED = re.compile(r"^(?:holes=|logic=)", re.M)
+ENDED = re.compile(r"^(?:holes=|logic=|only=)", re.M)
 
 
 @dataclass(frozen=True)
 class Case:
-    """The case that is to refuse a wrong definition."""
+    """The case, or the law, that is to refuse a wrong definition."""
 
     crate: str
-    file: str
+    file: str  # of a case; a law has none
     name: str
-
-    def __str__(self) -> str:
-        return f"{self.crate} {self.file}::{self.name}"
 
 
 @dataclass(frozen=True)
@@ -70,16 +83,29 @@ def trials() -> list[Edit]:
 
 
 def case_of(trial: Edit) -> Case:
-    """The case that a trial's file names."""
-    found = REFUSER.fullmatch(trial.marked())
-    if not found or not (CRATES / found[1] / "proofs" / f"{found[2]}.antt").is_file():
-        raise Unfit(f"`# refused-by:` names no case: `{trial.marked()}`")
-    return Case(*found.groups())
+    """What a trial's file names that refuses it."""
+    marked = trial.marked()
+    if (law := LAW.fullmatch(marked)) and law[1] in crates():
+        return Case(law[1], "", law[2])
+    case = CASE.fullmatch(marked)
+    if not case or not (CRATES / case[1] / "proofs" / f"{case[2]}.antt").is_file():
+        raise Unfit(f"`# refused-by:` names no case and no law: `{marked}`")
+    return Case(*case.groups())
+
+
+def used(case: Case) -> set[str]:
+    """The crates that a case's files import, and those below these; of a law those below its crate."""
+    if not case.file:
+        return reached(case.crate)
+    proofs = CRATES / case.crate / "proofs"
+    texts = [(proofs / f"{name}.antt").read_text() for name in needed(CRATES / case.crate, case.file)]
+    named = {name for text in texts for name in LIBRARY.findall(text)} & reached(case.crate)
+    return named.union(*map(reached, named))
 
 
 def between(trial: Edit, case: Case) -> list[str]:
-    """The crates that come as sources: that of the definition, and those above it that the case's crate stands on."""
-    return sorted(name for name in reached(case.crate) if trial.crate == name or trial.crate in reached(name))
+    """The crates that come as sources: that of the definition, and those above it that what refuses it stands on."""
+    return sorted(name for name in used(case) if trial.crate == name or trial.crate in reached(name))
 
 
 def cost(trial: Edit) -> int:
@@ -114,6 +140,15 @@ def leave(crate: Path, file: str) -> None:
             each.unlink()
 
 
+def cite(crate: Path, case: Case) -> None:
+    """Gives a copy a function whose proof cites a case: a check of it alone reads the case and what this needs."""
+    root = crate / "src" / ("main.rt" if (crate / "src" / "main.rt").exists() else "lib.rt")
+    root.write_text(root.read_text() + CITING)
+    folder = crate / "proofs" / "cites_the_case"
+    folder.mkdir()
+    (folder / "Answers.antt").write_text(ANSWER.format(crate=crate.name, file=case.file, case=case.name))
+
+
 def plant(trial: Edit, folder: Path) -> None:
     """Applies a trial to a copy of its crate; its files are of specs/."""
     if any(not change.file.startswith("specs/") for change in trial.changes):
@@ -127,10 +162,13 @@ def said_of(trial: Edit, case: Case) -> str:
     with tempfile.TemporaryDirectory(prefix="definition-") as name:
         room = Path(name)
         folder = copied(case.crate, room)
-        leave(folder, case.file)
+        if case.file:
+            leave(folder, case.file)
+            cite(folder, case)
         sources = {name: copied(name, room) for name in between(trial, case)}
         plant(trial, folder if trial.crate == case.crate else sources[trial.crate])
-        command = [*words(case.crate, sources), "--allow-holes"]
+        command = words(case.crate, sources, [name for name in libraries()[case.crate] if name in used(case)])
+        command += ["--only", "cites_the_case" if case.file else case.name]
         done = subprocess.run(
             command, cwd=folder, stdin=subprocess.DEVNULL, capture_output=True, text=True, timeout=MOST_SECONDS
         )
@@ -138,10 +176,12 @@ def said_of(trial: Edit, case: Case) -> str:
 
 
 def judged(case: Case, said: str) -> tuple[bool, str]:
-    """Whether the case is refused for what it says, by what the prover says of its file; and why, or why not."""
-    refused = [(name, why) for file, name, why in REFUSED.findall(said) if file == case.file]
+    """Whether a case or a law is refused for what it says, by what the prover says; and why, or why not."""
     if not ENDED.search(said):
         return False, f"the prover gave no verdict: {(ERROR.findall(said) or ['nothing'])[0][:200]}"
+    if not case.file:
+        return judged_law(case, said)
+    refused = [(name, why) for file, name, why in REFUSED.findall(said) if file == case.file]
     whys = [why for name, why in refused if name == case.name]
     if not whys:
         others = ", ".join(dict.fromkeys(name for name, _ in refused)) or "nothing"
@@ -149,6 +189,14 @@ def judged(case: Case, said: str) -> tuple[bool, str]:
     if all(NAMES.search(why) for why in whys):
         return False, f"{case.name} is refused for a name alone: {whys[0][:160]}"
     return True, whys[0][:160]
+
+
+def judged_law(case: Case, said: str) -> tuple[bool, str]:
+    """The same of a law."""
+    states = re.findall(rf"^fn \S*\b{case.name}: (.*)$", said, re.M)
+    if not states:
+        return False, f"the prover says nothing of {case.name}"
+    return states[0].startswith(("not proved", "no proof")), states[0][:160]
 
 
 def tried(trial: Edit) -> Verdict:
