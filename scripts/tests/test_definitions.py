@@ -23,7 +23,8 @@ def error(name: str, why: str, file: str = "StopCases") -> str:
         (error(CASE.name, "as printed, the two types differ only where one has `50`") + ENDED, True),
         (error("another_case", "as printed, the two types differ") + ENDED, False),
         (error(CASE.name, "as printed, the two types differ", file="PromiseCases") + ENDED, False),
-        (error(CASE.name, "`b` has no field `accel1`") + ENDED, False),
+        (error(CASE.name, "`gaining_reading` is not in scope") + ENDED, False),
+        (error(CASE.name, "record `Prim.Unit` has no field `1`") + ENDED, True),  # a text that says nothing has no part
         (error(CASE.name, "as printed, the two types differ"), False),  # with no verdict
         ("only=1 proved=1\n", False),
         ("specs/Reaction.antt:136:16: error: parse error\n", False),

@@ -29,7 +29,6 @@ from dataclasses import dataclass
 from pathlib import Path
 
 from scripts.editing.edits import Edit, Unfit
-from scripts.editing.heard import NAMES
 from scripts.editing.provers import copied, libraries, reached, words
 from scripts.pages.specs import CRATES, ROOT, crates
 
@@ -55,6 +54,7 @@ pub returns : goal.returns
 returns c = ⊤.tt
 """
 ERROR = re.compile(r"^.*\berror\b.*$", re.M)
+NAMES = re.compile(r"is not in scope|has no `|was not admitted|is no name|has no name|unknown name")
 ENDED = re.compile(r"^(?:holes=|logic=|only=)", re.M)
 
 
