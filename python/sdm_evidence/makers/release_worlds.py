@@ -177,8 +177,8 @@ def a_next_document(rng: Random, document: Table, broken: Broken) -> Table:
 
 
 def a_start(rng: Random, supervisor: Supervisor, odometer: Odometer, stop: Stop) -> tuple[int, int]:
-    """Where a ride begins, in cm, and its greatest speed in mm/s, whose estimate is the release speed: from there it can
-    brake before the EOA."""
+    """Where a ride begins, in cm, and its greatest speed in mm/s. Its estimate is the release speed, and from there it
+    can brake before the EOA."""
     under = 0 if supervisor.data.national.inhibit_under_reading else odometer.under_mm_s
     speed = stop.release * NOTCHES_PER_KM_H // NOTCHES_PER_MM_S + under
     return stop.eoa - a_braking_cm(supervisor, speed) - rng.randint(1_000, 20_000), speed
