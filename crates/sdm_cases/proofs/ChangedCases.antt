@@ -2,16 +2,15 @@
 -- replaces the first one's. A train that is read to run at 0.1 m/s, and may run 0.1 m/s faster, does so. It is read
 -- 10 cm before the SvL by data with a cut-off time of 0, and 8 cm before it by data with one of 0.2 s; then readings are
 -- missing, and it stops at the SvL to the grain.
-use Rattle.std.proofs.Common.{◌≡◌, ◌∙◌, ℕ, ℤ, suc, pos, Bool, true, false, List, [], ◌∷◌, ◌+◌, ◌*◌, ◌<◌, ◌+ℤ◌, ◌*ℤ◌, ◌≤ℤ◌}
+use Rattle.std.proofs.Common.{◌≡◌, ◌∙◌, ℕ, ℤ, pos, Bool, true, false, List, [], ◌∷◌, ◌*◌, ◌<◌, ◌+ℤ◌, ◌≤ℤ◌}
 use Rattle.std.proofs.Common.{refl, subst, sym, ap, arith}
-use Rattle.std.specs.Prelude.{All, Ok, Option, Some, None, if◌then◌else◌}
+use Rattle.std.specs.Prelude.{All, Option, Some, None, if◌then◌else◌}
 use Rattle.std.proofs.lemmas.Int.{ints}
 use Rattle.std.proofs.lemmas.Option.{none-some, same_Some}
 use Rattle.std.proofs.lemmas.List.Elements.{All-nil, All-cons}
 use Rattle.sdm_num.specs.Readings.{OdometerReading}
 use Rattle.sdm_rules.specs.declared.commands.Held.{Held}
 use Rattle.sdm_rules.specs.declared.records.Event.TheVariants as record_kinds
-use Rattle.sdm_rules.specs.Cells.{place_of_cell}
 use Rattle.sdm_rules.specs.Commands.{commands_after, emergency_after, nothing_held}
 use Rattle.sdm_rules.specs.Curves.{place_at, corner, arc, stepped, arc_back, back}
 use Rattle.sdm_rules.specs.Data.{TrainAndTrack}
@@ -29,7 +28,7 @@ use Rattle.sdm_rules.specs.Triggers.{triggers_of}
 use Rattle.sdm_ride.specs.Happenings.{Happening, Record, Overdue, Change, Tick}
 use Rattle.sdm_ride.specs.Moments.{Moment, Promise, after, after_change, by_rows, is_ordered, moments}
 use Rattle.sdm_ride.specs.MotionRides.{last_moment}
-use Rattle.sdm_ride.specs.Rides.{IsByOrders, IsByTimelyOrders, IsRide, IsTick, IsTrueReading, MayHappen, point_of}
+use Rattle.sdm_ride.specs.Rides.{IsByOrders, IsByTimelyOrders, IsRide, IsTick, IsTrueReading, MayHappen}
 use Rattle.sdm_ride.specs.RideLaws.{EndsBy, IsAsCovered, IsNeverPast, IsRideBefore, KeepsPromise, LawOfPlaces, LawOfRides}
 use Rattle.sdm_cases.proofs.Journeys.{plain_band, plain_national, plain_train_and_track}
 use Rattle.sdm_cases.proofs.Openings.{opening_situation, situation_in, situation_with}

@@ -1,6 +1,6 @@
 mod BoundCases
-mod Journeys
-mod Openings
+pub mod Journeys
+pub mod Openings
 mod ReactionCases
 mod DecelerationCases
 mod ProfileCases
@@ -11,7 +11,7 @@ mod RowCases
 mod OpenCases
 mod MachineCases
 mod MotionCases
-mod StopCases
+pub mod StopCases
 mod ReleaseCases
 mod ReleaseLimitCases
 mod DisplayCases
@@ -27,21 +27,23 @@ mod LineCases
 mod TextCases
 mod FlatCases
 mod TrialCases
-mod RideTrain
-mod TickTests
-mod RideSteps
+pub mod RideTrain
+pub mod TickTests
+pub mod RideSteps
 mod RideLine
 mod RideBeginning
 mod RideCases
 mod ChangedCases
-mod RideLawCases
+pub mod RideLawCases
 mod RideTargetCases
 mod RideFallCases
 mod RideOrderCases
 mod PartLawCases
-mod ComputerSteps
+pub mod ComputerSteps
 mod ComputerRideCases
 mod ReleaseRideCases
+mod ReleaseChangeCases
+mod ReleasePremiseCases
 mod ReleaseScaleCases
 mod ServiceRideCases
 mod EoaRideCases

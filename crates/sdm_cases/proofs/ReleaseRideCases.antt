@@ -3,18 +3,16 @@
 -- read to run. It is, from 9.67 m on, is tripped at the next reading, and stands 0.9 cm before the SvL.
 use Rattle.std.proofs.Common.{◌≡◌, ℕ, ℤ, suc, pos, Bool, true, false, List, [], ◌∷◌, ◌+◌, ◌*◌, ◌<◌, ◌≤◌, ◌+ℤ◌}
 use Rattle.std.proofs.Common.{◌≤ℤ◌, refl, subst, sym, ap, ◌∙◌, arith}
-use Rattle.std.specs.Prelude.{All, map, IsTrue, Ok, int_le, nat_le, Option, Some, None, ⊤, not, ◌&&◌, ◌||◌}
+use Rattle.std.specs.Prelude.{All, map, IsTrue, Ok, Option, Some, None, ⊤, not, ◌&&◌, ◌||◌}
 use Rattle.std.specs.Prelude.{if◌then◌else◌}
-use Rattle.std.proofs.lemmas.Bool.{and_from, false≢true}
+use Rattle.std.proofs.lemmas.Bool.{false≢true}
 use Rattle.std.proofs.lemmas.Int.{ints}
 use Rattle.std.proofs.lemmas.Option.{none-some, same_Some}
 use Rattle.std.proofs.lemmas.List.Elements.{All-nil, All-cons}
 use Rattle.sdm_num.specs.Readings.{OdometerReading}
-use Rattle.sdm_num.specs.Units.{centimetre, notches}
 use Rattle.sdm_rules.specs.declared.authorities.Authority.{Authority}
-use Rattle.sdm_rules.specs.declared.authorities.Authority.TheVariants.{Stop, Limit}
-use Rattle.sdm_rules.specs.declared.data.SlopeKind.{SlopeKind}
-use Rattle.sdm_rules.specs.declared.data.SlopeKind.TheVariants.{Safe, Expected, Normal}
+use Rattle.sdm_rules.specs.declared.authorities.Authority.TheVariants.{Stop}
+use Rattle.sdm_rules.specs.declared.data.SlopeKind.TheVariants.{Safe}
 use Rattle.sdm_rules.specs.declared.records.Event.TheVariants as record_kinds
 use Rattle.sdm_rules.specs.Cells.{place_of_cell}
 use Rattle.sdm_rules.specs.Commands.{commands_after, emergency_after, nothing_held}
@@ -24,38 +22,35 @@ use Rattle.sdm_rules.specs.Decelerations.{slope_at, slopes_of}
 use Rattle.sdm_rules.specs.Limits.{computed, limits_of, release_start}
 use Rattle.sdm_rules.specs.declared.motions.Point.{Point}
 use Rattle.sdm_rules.specs.Motion.{BrakesAtLeast, IsStep}
-use Rattle.sdm_rules.specs.Opening.{IsAcceptedKind, IsOpen}
 use Rattle.sdm_rules.specs.Profile.{mrsp}
 use Rattle.sdm_rules.specs.Reaction.{reaction_times}
 use Rattle.sdm_rules.specs.Records.{step}
-use Rattle.sdm_rules.specs.Release.{calculated, fits, t_be}
+use Rattle.sdm_rules.specs.Release.{fits, t_be}
 use Rattle.sdm_rules.specs.Supervision.{Supervision, after_reading, commands_in, is_covered_in, opening, row_in, row_of}
-use Rattle.sdm_rules.specs.Supervision.{situation_of, state_in}
-use Rattle.sdm_rules.specs.TakeOver.{change, take_over_fault, taken_over, unless_refused}
+use Rattle.sdm_rules.specs.Supervision.{state_in}
 use Rattle.sdm_rules.specs.Targets.{targets_of}
 use Rattle.sdm_rules.specs.Triggers.{triggers_of}
-use Rattle.sdm_ride.specs.Happenings.{Happening, Record, Overdue, Change, Tick}
-use Rattle.sdm_ride.specs.Moments.{by_rows, Judging, Moment, Promise, after, after_change, after_record, is_ordered}
+use Rattle.sdm_ride.specs.Happenings.{Happening, Record, Overdue, Tick}
+use Rattle.sdm_ride.specs.Moments.{by_rows, Judging, Moment, Promise, after, after_record, is_ordered}
 use Rattle.sdm_ride.specs.Moments.{moments}
 use Rattle.sdm_ride.specs.Orders.{judged_in}
-use Rattle.sdm_ride.specs.Rides.{HoldsDelays, IsByOrders, IsByTimelyOrders, IsRide, IsTick, IsTrueReading, MayHappen}
+use Rattle.sdm_ride.specs.Rides.{IsByOrders, IsByTimelyOrders, IsRide, IsTick, IsTrueReading, MayHappen}
 use Rattle.sdm_ride.specs.Rides.{TickRule}
-use Rattle.sdm_ride.specs.RideLaws.{AreKeptByOrders, IsByItsSvl, IsNeverPast, IsRideStart, KeepsPromise}
+use Rattle.sdm_ride.specs.RideLaws.{IsNeverPast, KeepsPromise}
 use Rattle.sdm_release_ride.specs.TripPlaces.{by_guarded, HasTripPlace, IsWithinBounds, TripBounds, by_release}
-use Rattle.sdm_release_ride.specs.TripPlaces.{excess_of, has_trip_place, is_untripped, is_within_bounds, promises_svl}
+use Rattle.sdm_release_ride.specs.TripPlaces.{is_untripped, promises_svl}
 use Rattle.sdm_release_ride.specs.ReleaseRideLaws.{AllJudged, EndsWithTripBy, IsGuardedRide, IsReleaseRide, KeepsBounds}
 use Rattle.sdm_release_ride.specs.ReleaseRideLaws.{unpromised}
 use Rattle.sdm_release_ride.specs.ReleaseRideLaws.{IsAsByRelease, LawOfCalculatedStops, LawOfGuardedPlaces}
 use Rattle.sdm_release_ride.specs.ReleaseRideLaws.{LawOfReleasePlaces}
 use Rattle.sdm_release_ride.specs.ReleaseRideLaws.{LawOfReleaseRides, LawOfSameTrains, LawOfTrips, StopsBefore}
-use Rattle.sdm_release_ride.proofs.ReleaseEnds.{gives_promise, le_is_test, passes_trip}
+use Rattle.sdm_release_ride.proofs.ReleaseEnds.{gives_promise}
 use Rattle.sdm_release_ride.proofs.Trips.{not_past_eoa}
 use Rattle.sdm_release_ride.proofs.TripSpeeds.{fits_within}
 use Rattle.sdm_cases.proofs.Journeys.{plain_band, plain_national, plain_train_and_track}
 use Rattle.sdm_cases.proofs.Openings.{opening_situation, situation_in, situation_with}
-use Rattle.sdm_cases.proofs.RideLine.{braking_step, delays, delays_held, delays_not_held, line_open_under, ride_line}
+use Rattle.sdm_cases.proofs.RideLine.{braking_step, delays, delays_held, line_open_under, ride_line}
 use Rattle.sdm_cases.proofs.StopCases.{plain_slopes}
-use Rattle.sdm_cases.proofs.TakeOverCases.{none_in}
 
 abbrev pub line : TrainAndTrack
 line = ride_line (pos 2) (pos 0)
@@ -73,11 +68,11 @@ unfolding ride_line plain_train_and_track plain_national plain_band slopes_of sl
     arc_back back
 two_fit = refl
 
-in_time : (reaction_times line).traction ≤ t_be line
+pub in_time : (reaction_times line).traction ≤ t_be line
 unfolding ride_line plain_train_and_track plain_national reaction_times
 in_time = omega arith
 
-trip_place : HasTripPlace bounds line 960 1000 1
+pub trip_place : HasTripPlace bounds line 960 1000 1
 trip_place =
     let two = fits_within line 1000 967 2 (omega arith) two_fit in
     record { trip = 967; after_eoa = omega arith; by_svl = omega arith; slow = omega arith; in_time = in_time }
@@ -100,15 +95,15 @@ first = record {
 }
 
 -- one of 8 cm, a centimetre more
-unfoldable wide : OdometerReading
+unfoldable pub wide : OdometerReading
 wide = record first { max = pos 5_227_200_000_000 }
 
 -- one that may be 11 km/h more
-unfoldable fast : OdometerReading
+unfoldable pub fast : OdometerReading
 fast = record first { under = 165_000 }
 
 -- from 1 cm to 41 cm past it
-unfoldable second : OdometerReading
+unfoldable pub second : OdometerReading
 second = record {
   time = 1;
   est = pos 5_227_200_000_000;
@@ -119,10 +114,10 @@ second = record {
   under = 15_000;
 }
 
-abbrev before_on : TrainAndTrack → Supervision
+abbrev pub before_on : TrainAndTrack → Supervision
 before_on d = opening d ending
 
-abbrev between_on : TrainAndTrack → OdometerReading → Supervision
+abbrev pub between_on : TrainAndTrack → OdometerReading → Supervision
 between_on d r = after_reading (before_on d) r
 
 abbrev pub before : Supervision
@@ -154,57 +149,57 @@ unfolding ride_line plain_train_and_track plain_national plain_band first row_in
 first_free = ap (λ now. is_ordered (row_in line nothing_held first now)) (opening_situation line ending first) ∙ refl
 
 -- after any reading the second one is tripped
-second_uncovered : (r : OdometerReading) → (row_of (between r) second).covered ≡ false
+pub second_uncovered : (r : OdometerReading) → (row_of (between r) second).covered ≡ false
 unfolding ride_line plain_train_and_track plain_national plain_band second row_in situation_with targets_of mrsp
     is_covered_in limits_of release_start reaction_times slopes_of slope_at stepped place_at corner arc arc_back back
     after_reading
 second_uncovered r = ap (λ now. is_covered_in line second now) (situation_in (between r) second refl) ∙ refl
 
-true_unless : (b : Bool) → (b ≡ false → ⊥) → b ≡ true
+pub true_unless : (b : Bool) → (b ≡ false → ⊥) → b ≡ true
 true_unless true h = refl
 true_unless false h = absurd (h refl)
 
-second_tripped : (r : OdometerReading) → (row_of (between r) second).held.eb ≡ true
+pub second_tripped : (r : OdometerReading) → (row_of (between r) second).held.eb ≡ true
 unfolding after_reading second
 second_tripped r = true_unless _ (λ eb.
     let low = not_past_eoa (between r) second 960 1000 1 refl eb in absurd (omega (arith, ints, low)))
 
-no_promise : (covered state eb bounds trip : Bool) → covered ≡ false → eb ≡ true →
+pub no_promise : (covered state eb bounds trip : Bool) → covered ≡ false → eb ≡ true →
     (covered || (state && not eb && bounds && trip)) ≡ false
 no_promise covered true eb bounds trip e f = rw (e, f) refl
 no_promise covered false eb bounds trip e f = rw e refl
 
-an_order : (eb rest : Bool) → eb ≡ true → (eb || rest) ≡ true
+pub an_order : (eb rest : Bool) → eb ≡ true → (eb || rest) ≡ true
 an_order eb rest e = rw e refl
 
 -- ---- what happens
 
 -- a ds at a speed in notches; from 30,000 on, 2 km/h, braking with 1 m/s²
-abbrev runs : ℕ → Happening
+abbrev pub runs : ℕ → Happening
 runs v = Tick v (1_000_000 * v)
 
-abbrev braked : List Happening
+abbrev pub braked : List Happening
 braked =
     Tick 24_600 27_300_000_000 ∷ Overdue ∷ Tick 19_200 21_900_000_000 ∷ Overdue ∷ Tick 13_800 16_500_000_000 ∷ Overdue
     ∷ Tick 8_400 11_100_000_000 ∷ Overdue ∷ Tick 3_000 5_700_000_000 ∷ Overdue ∷ Tick 0 833_333_333 ∷ []
 
-abbrev happenings : OdometerReading → ℕ → List Happening → List Happening
+abbrev pub happenings : OdometerReading → ℕ → List Happening → List Happening
 happenings r v rest =
     Record (record_kinds.Read r) ∷ runs v ∷ Record (record_kinds.Read second) ∷ runs v ∷ Overdue ∷ runs v ∷ Overdue
     ∷ rest
 
 -- a step of braking with 1 m/s² is one on the slopes of A_safe
-abbrev Brakes : TrainAndTrack → Type 0
+abbrev pub Brakes : TrainAndTrack → Type 0
 Brakes d =
     (x y : Point) → BrakesAtLeast plain_slopes 200_000_000_000 x.place x.square y.place y.square →
     IsStep (slopes_of Safe d) 1 x y
 
 -- the promise of a reading, so many ticks ago
-abbrev promised : TrainAndTrack → OdometerReading → ℕ → Promise
+abbrev pub promised : TrainAndTrack → OdometerReading → ℕ → Promise
 promised d r age = record { under = before_on d; reading = r; age = age }
 
 -- what the orders make the train do is all that a rule asks while that promise stands
-abbrev Allows : TrainAndTrack → OdometerReading → ℕ → TickRule → Type 0
+abbrev pub Allows : TrainAndTrack → OdometerReading → ℕ → TickRule → Type 0
 Allows d r b rule =
     (age : ℕ) (m : Moment) (to length : ℕ) → IsByOrders (delays b) 1 (promised d r age) m to length →
     rule (promised d r age) m to length
@@ -212,7 +207,7 @@ Allows d r b rule =
 -- from a train that brakes with 1 m/s² a ride of a judging, with a reading at a place that gives the first promise, and
 -- a brake that works so many ds after its order stands at the interface
 module _ (d : TrainAndTrack) (brakes : Brakes d) (j : Judging) (r : OdometerReading) (b : ℕ) (p : ℤ) (v : ℕ) where
-  abbrev start : Moment
+  abbrev pub start : Moment
   start = record {
     supervision = before_on d;
     place = p;
@@ -223,7 +218,7 @@ module _ (d : TrainAndTrack) (brakes : Brakes d) (j : Judging) (r : OdometerRead
   }
 
   -- a moment after the first reading
-  abbrev moment : Supervision → ℤ → ℕ → ℕ → ℕ → Option ℕ → Moment
+  abbrev pub moment : Supervision → ℤ → ℕ → ℕ → ℕ → Option ℕ → Moment
   moment s place speed silence age order = record {
     supervision = s;
     place = place;
@@ -237,18 +232,18 @@ module _ (d : TrainAndTrack) (brakes : Brakes d) (j : Judging) (r : OdometerRead
   later = after_reading (between_on d r) second
 
   -- happenings with the moments that they lead to
-  abbrev AreSteps : Moment → List Happening → List Moment → Type 0
+  abbrev pub AreSteps : Moment → List Happening → List Moment → Type 0
   AreSteps m [] [] = ⊤
   AreSteps m [] (n ∷ ns) = ⊥
   AreSteps m (h ∷ hs) [] = ⊥
   AreSteps m (h ∷ hs) (n ∷ ns) = (after j m h ≡ n) × AreSteps n hs ns
 
-  abbrev AreHolding : (Moment → Happening → Type 0) → Moment → List Happening → List Moment → Type 0
+  abbrev pub AreHolding : (Moment → Happening → Type 0) → Moment → List Happening → List Moment → Type 0
   AreHolding P m [] ns = ⊤
   AreHolding P m (h ∷ hs) [] = ⊥
   AreHolding P m (h ∷ hs) (n ∷ ns) = P m h × AreHolding P n hs ns
 
-  are_moments : (m : Moment) (hs : List Happening) (ns : List Moment) → AreSteps m hs ns → moments j m hs ≡ ns
+  pub are_moments : (m : Moment) (hs : List Happening) (ns : List Moment) → AreSteps m hs ns → moments j m hs ≡ ns
   are_moments m [] [] steps = refl
   are_moments m (h ∷ hs) (n ∷ ns) steps =
       ap (λ (x : Moment). x ∷ moments j x hs) steps.0 ∙ ap (λ (xs : List Moment). n ∷ xs) (are_moments n hs ns steps.1)
@@ -277,7 +272,7 @@ module _ (d : TrainAndTrack) (brakes : Brakes d) (j : Judging) (r : OdometerRead
   abbrev q6 : ℤ → ℤ
   q6 q = q5 q +ℤ pos 833_333_333
 
-  abbrev halts : Supervision → ℤ → ℕ → ℕ → List Moment
+  abbrev pub halts : Supervision → ℤ → ℕ → ℕ → List Moment
   halts s q age o =
       moment s (q1 q) 24_600 1 (suc age) (Some (suc o))
       ∷ moment s (q1 q) 24_600 0 (suc age) (Some (suc o))
@@ -292,10 +287,10 @@ module _ (d : TrainAndTrack) (brakes : Brakes d) (j : Judging) (r : OdometerRead
       ∷ moment s (q6 q) 0 1 (suc (suc (suc (suc (suc (suc age)))))) (Some (suc (suc (suc (suc (suc (suc o)))))))
       ∷ []
 
-  abbrev to_the_stop : ℤ → ℕ → ℕ → List Moment
+  abbrev pub to_the_stop : ℤ → ℕ → ℕ → List Moment
   to_the_stop q age o = halts later q age o
 
-  abbrev to_the_brake : List Moment → List Moment
+  abbrev pub to_the_brake : List Moment → List Moment
   to_the_brake rest =
       moment (between_on d r) p v 0 0 None
       ∷ moment (between_on d r) (on p) v 1 1 None
@@ -307,23 +302,23 @@ module _ (d : TrainAndTrack) (brakes : Brakes d) (j : Judging) (r : OdometerRead
       ∷ rest
 
   -- what the readings do
-  record AreJudged : Type 0 where
-    taken : step (between_on d r) (record_kinds.Read second) ≡ Ok later
-    gives : j.promises (before_on d) r ≡ true
-    free : j.orders (before_on d) r ≡ false
-    none : j.promises (between_on d r) second ≡ false
-    orders : j.orders (between_on d r) second ≡ true
+  pub record AreJudged : Type 0 where
+    pub taken : step (between_on d r) (record_kinds.Read second) ≡ Ok later
+    pub gives : j.promises (before_on d) r ≡ true
+    pub free : j.orders (before_on d) r ≡ false
+    pub none : j.promises (between_on d r) second ≡ false
+    pub orders : j.orders (between_on d r) second ≡ true
 
-  halting : (s : Supervision) (q : ℤ) (age o : ℕ) →
+  pub halting : (s : Supervision) (q : ℤ) (age o : ℕ) →
       AreSteps (moment s q 30_000 0 age (Some o)) braked (halts s q age o)
   unfolding after
   halting s q age o = (refl, (refl, (refl, (refl, (refl, (refl, (refl, (refl, (refl, (refl, (refl, tt)))))))))))
 
-  braking_steps : (q : ℤ) (age o : ℕ) →
+  pub braking_steps : (q : ℤ) (age o : ℕ) →
       AreSteps (moment later q 30_000 0 age (Some o)) braked (to_the_stop q age o)
   braking_steps q age o = halting later q age o
 
-  to_first : AreJudged → after j start (Record (record_kinds.Read r)) ≡ moment (between_on d r) p v 0 0 None
+  pub to_first : AreJudged → after j start (Record (record_kinds.Read r)) ≡ moment (between_on d r) p v 0 0 None
   unfolding after step
   to_first h =
       ap (λ (c : Bool). record {
@@ -368,24 +363,24 @@ module _ (d : TrainAndTrack) (brakes : Brakes d) (j : Judging) (r : OdometerRead
   unfolding after
   steps h rest ns later_on = (to_first h, (refl, (to_second h, (refl, (refl, (refl, (refl, later_on)))))))
 
-  not_yet : (o : ℕ) → None ≡ Some o → o < 1 + b
+  pub not_yet : (o : ℕ) → None ≡ Some o → o < 1 + b
   not_yet o e = absurd (none-some o e)
 
-  still : (n : ℕ) → n < 1 + b → (o : ℕ) → Some n ≡ Some o → o < 1 + b
+  pub still : (n : ℕ) → n < 1 + b → (o : ℕ) → Some n ≡ Some o → o < 1 + b
   still n lt o e = subst (λ k. k < 1 + b) (same_Some n o e) lt
 
   -- the readings are true
-  record AreTrue : Type 0 where
-    one : IsTrueReading 1 start r
-    two : IsTrue (j.promises (between_on d r) second) →
+  pub record AreTrue : Type 0 where
+    pub one : IsTrueReading 1 start r
+    pub two : IsTrue (j.promises (between_on d r) second) →
         IsTrueReading 1 (moment (between_on d r) (on p) v 1 1 None) second
 
   -- by a rule that asks no more than the orders do
   module _ (rule : TickRule) (allows : Allows d r b rule) where
-    abbrev May : Moment → Happening → Type 0
+    abbrev pub May : Moment → Happening → Type 0
     May m h = MayHappen j rule 1 m h
 
-    is_ride : (m : Moment) (hs : List Happening) (ns : List Moment) → AreSteps m hs ns → AreHolding May m hs ns →
+    pub is_ride : (m : Moment) (hs : List Happening) (ns : List Moment) → AreSteps m hs ns → AreHolding May m hs ns →
         IsRide j rule 1 m hs
     is_ride m [] ns steps may = tt
     is_ride m (h ∷ hs) [] steps may = absurd may
@@ -396,7 +391,7 @@ module _ (d : TrainAndTrack) (brakes : Brakes d) (j : Judging) (r : OdometerRead
     )
 
     -- a tick of running, (before_on d) the brake works
-    running : (s : Supervision) (q : ℤ) (age : ℕ) (order : Option ℕ) → ((o : ℕ) → order ≡ Some o → o < 1 + b) →
+    pub running : (s : Supervision) (q : ℤ) (age : ℕ) (order : Option ℕ) → ((o : ℕ) → order ≡ Some o → o < 1 + b) →
         May (moment s q v 0 age order) (runs v)
     running s q age order early = λ c e.
         subst (λ (c : Promise). rule c (moment s q v 0 age order) v (1_000_000 * v))
@@ -421,7 +416,7 @@ module _ (d : TrainAndTrack) (brakes : Brakes d) (j : Judging) (r : OdometerRead
           brakes = λ o is long. ([], brakes _ _ enough);
         }))
 
-    halting_may : (s : Supervision) (q : ℤ) (age o : ℕ) → AreHolding May (moment s q 30_000 0 age (Some o)) braked
+    pub halting_may : (s : Supervision) (q : ℤ) (age o : ℕ) → AreHolding May (moment s q 30_000 0 age (Some o)) braked
         (halts s q age o)
     unfolding plain_slopes
     halting_may s q age o = (
@@ -485,7 +480,7 @@ module _ (d : TrainAndTrack) (brakes : Brakes d) (j : Judging) (r : OdometerRead
       ),
     )
 
-    braking_may : (q : ℤ) (age o : ℕ) →
+    pub braking_may : (q : ℤ) (age o : ℕ) →
         AreHolding May (moment later q 30_000 0 age (Some o)) braked (to_the_stop q age o)
     braking_may q age o = halting_may later q age o
 
@@ -507,12 +502,12 @@ module _ (d : TrainAndTrack) (brakes : Brakes d) (j : Judging) (r : OdometerRead
     )
 
     -- the ride, and its moments
-    record IsWorked (rest : List Happening) (ns : List Moment) : Type 0 where
-      steps_are : AreSteps start (happenings r v rest) (to_the_brake ns)
-      moments_are : moments j start (happenings r v rest) ≡ to_the_brake ns
-      ride : IsRide j rule 1 start (happenings r v rest)
+    pub record IsWorked (rest : List Happening) (ns : List Moment) : Type 0 where
+      pub steps_are : AreSteps start (happenings r v rest) (to_the_brake ns)
+      pub moments_are : moments j start (happenings r v rest) ≡ to_the_brake ns
+      pub ride : IsRide j rule 1 start (happenings r v rest)
 
-    worked : AreJudged → AreTrue → 0 < b → (rest : List Happening) (ns : List Moment) →
+    pub worked : AreJudged → AreTrue → 0 < b → (rest : List Happening) (ns : List Moment) →
         AreSteps (moment later (on (on (on p))) v 0 3 (Some 2)) rest ns →
         AreHolding May (moment later (on (on (on p))) v 0 3 (Some 2)) rest ns →
         IsWorked rest ns
@@ -527,34 +522,34 @@ module _ (d : TrainAndTrack) (brakes : Brakes d) (j : Judging) (r : OdometerRead
 -- ---- the ride
 
 -- the last of moments
-abbrev last_of : List Moment → Moment → Moment
+abbrev pub last_of : List Moment → Moment → Moment
 last_of [] m = m
 last_of (n ∷ ns) m = last_of ns n
 
-line_brakes : Brakes line
+pub line_brakes : Brakes line
 line_brakes x y brakes = braking_step (pos 2) (pos 0) x y brakes
 
 -- by orders that work in time: the times that were handed in hold the delays
-abbrev timely : TickRule
+abbrev pub timely : TickRule
 timely = IsByTimelyOrders (delays 1) 1
 
-by_timely : (r : OdometerReading) → Allows line r 1 timely
+pub by_timely : (r : OdometerReading) → Allows line r 1 timely
 by_timely r age m to length by = record { times = delays_held (pos 0) ending r age; orders = by }
 
-abbrev here : ℤ
+abbrev pub here : ℤ
 here = pos 5_221_800_000_000
 
-second_true : (r : OdometerReading) → IsTrueReading 1
+pub second_true : (r : OdometerReading) → IsTrueReading 1
     (moment line line_brakes (by_release bounds) r 1 here 30_000 (between r) (pos 5_251_800_000_000) 30_000 1 1 None)
     second
 unfolding after_reading ride_line plain_train_and_track plain_national second
 second_true r = record { front = omega (arith, ints); speed = omega arith }
 
-first_true : IsTrueReading 1 (start line line_brakes (by_release bounds) first 1 here 30_000) first
+pub first_true : IsTrueReading 1 (start line line_brakes (by_release bounds) first 1 here 30_000) first
 unfolding ride_line plain_train_and_track plain_national first
 first_true = record { front = omega (arith, ints); speed = omega arith }
 
-second_taken : step (between first) (record_kinds.Read second) ≡ Ok (after_reading (between first) second)
+pub second_taken : step (between first) (record_kinds.Read second) ≡ Ok (after_reading (between first) second)
 unfolding step after_reading first second
 second_taken = refl
 
@@ -562,11 +557,11 @@ not_is : (b : Bool) → b ≡ true → not b ≡ false
 not_is true e = refl
 not_is false e = absurd (false≢true e)
 
-or_right : (a b : Bool) → b ≡ true → (a || b) ≡ true
+pub or_right : (a b : Bool) → b ≡ true → (a || b) ≡ true
 or_right true b e = refl
 or_right false b e = e
 
-judged : AreJudged line line_brakes (by_release bounds) first 1 here 30_000
+pub judged : AreJudged line line_brakes (by_release bounds) first 1 here 30_000
 judged = record {
   taken = second_taken;
   gives = or_right _ _ first_promises;
@@ -575,8 +570,12 @@ judged = record {
   orders = an_order _ _ (second_tripped first);
 }
 
-abbrev its_start : Moment
+abbrev pub its_start : Moment
 its_start = start line line_brakes (by_release bounds) first 1 here 30_000
+
+-- a moment of the ride
+abbrev pub at_moment : Supervision → ℤ → ℕ → ℕ → ℕ → Option ℕ → Moment
+at_moment = moment line line_brakes (by_release bounds) first 1 here 30_000
 
 abbrev its_stop : List Moment
 its_stop = to_the_stop line line_brakes (by_release bounds) first 1 here 30_000 (pos 5_311_800_000_000) 3 2
@@ -600,14 +599,14 @@ it_is =
     5_311_800_000_000) 3 2)
 
 -- every authority is the first one
-abbrev Ends : Moment → Type 0
+abbrev pub Ends : Moment → Type 0
 Ends n = EndsWithTripBy bounds n.supervision.train_and_track 1000 n.supervision.authority
 
 abbrev AllOf : (Moment → Type 0) → List Moment → Type 0
 AllOf P [] = ⊤
 AllOf P (n ∷ ns) = P n × AllOf P ns
 
-all_of : (P : Moment → Type 0) (ns : List Moment) → AllOf P ns → All P ns
+pub all_of : (P : Moment → Type 0) (ns : List Moment) → AllOf P ns → All P ns
 all_of P [] h = All-nil P
 all_of P (n ∷ ns) h = All-cons P n ns h.0 (all_of P ns h.1)
 
@@ -672,13 +671,13 @@ its_authorities =
     ))
 
 -- the first reading keeps the bounds, and no other one finds an untripped train
-abbrev KeepsIn : Supervision → Happening → Type 0
+abbrev pub KeepsIn : Supervision → Happening → Type 0
 KeepsIn s h = (r : OdometerReading) → judged_in s h ≡ Some r → KeepsBounds bounds s r
 
 abbrev Keeps : Moment → Happening → Type 0
 Keeps m h = KeepsIn m.supervision h
 
-first_keeps : KeepsIn before (Record (record_kinds.Read first))
+pub first_keeps : KeepsIn before (Record (record_kinds.Read first))
 unfolding step
 first_keeps = λ r e untripped. subst (λ (x : OdometerReading). IsWithinBounds bounds line x) (same_Some _ _ e)
     first_within
@@ -693,7 +692,7 @@ unfolding step first second after_reading
 second_keeps = λ r e untripped. absurd (tripped_not _ _ (second_tripped first)
     (subst (λ (x : OdometerReading). is_untripped (row_of (between first) x) ≡ true) (sym (same_Some _ _ e)) untripped))
 
-keep_all : (m : Moment) (hs : List Happening) (ns : List Moment) → AreSteps line line_brakes (by_release bounds)
+pub keep_all : (m : Moment) (hs : List Happening) (ns : List Moment) → AreSteps line line_brakes (by_release bounds)
     first 1 here 30_000 m hs ns →
     AreHolding line line_brakes (by_release bounds) first 1 here 30_000 Keeps m hs ns → AllJudged (by_release bounds)
     (KeepsBounds bounds) m hs
@@ -923,765 +922,3 @@ guarded_by_law law =
     let all = subst (λ (ns : List Moment). IsNeverPast 1 1000 ns) guarded_is.moments_are
     (law bounds (delays 1) 1 1000 guarded_start its_happenings (omega arith) a_guarded_ride) in
     all 17 guarded_start (omega arith)
-
--- ---- over a change of data
-
--- T_traction is 0.3 s, the EOA is at 9 m, and the release speed is 2 km/h: by these data the trip place is at 9.07 m
-abbrev next_line : TrainAndTrack
-next_line = ride_line (pos 3) (pos 0)
-
-abbrev next_ending : Authority
-next_ending = Stop 900 1000 2
-
-abbrev next : Supervision
-next = opening next_line next_ending
-
-abbrev changed : Supervision
-changed = taken_over next (between first)
-
-next_fit : fits computed (slopes_of Safe next_line) (t_be next_line) (place_of_cell (pos 1000)) (place_of_cell (pos
-    907)) 3
-    ≡ true
-unfolding ride_line plain_train_and_track plain_national plain_band slopes_of slope_at stepped place_at corner arc
-    arc_back back
-next_fit = refl
-
-next_in_time : (reaction_times next_line).traction ≤ t_be next_line
-unfolding ride_line plain_train_and_track plain_national reaction_times
-next_in_time = omega arith
-
-ends_changed : EndsWithTripBy bounds next_line 1000 next_ending
-ends_changed =
-    let three = fits_within next_line 1000 907 3 (omega arith) next_fit in (
-      omega arith,
-      λ _. record {
-        trip = 907;
-        after_eoa = omega arith;
-        by_svl = omega arith;
-        slow = omega arith;
-        in_time = next_in_time;
-      },
-    )
-
-next_open : IsOpen next
-next_open = line_open_under (pos 3) (pos 0) next_ending
-
--- the data are taken, since no restriction is in force
-unrestricted : take_over_fault next.train_and_track.track.length_cm (between first).restrictions ≡ None
-unfolding after_reading
-unrestricted = rw none_in refl
-
-changes : change next (between first) ≡ Ok changed
-unfolding change
-changes = ap (λ f. unless_refused f changed) unrestricted
-
--- a moment of the ride
-abbrev at_moment : Supervision → ℤ → ℕ → ℕ → ℕ → Option ℕ → Moment
-at_moment = moment line line_brakes (by_release bounds) first 1 here 30_000
-
-to_change : after (by_release bounds) (at_moment (between first) here 30_000 0 0 None) (Change next)
-    ≡ at_moment changed here 30_000 0 0 None
-unfolding after
-to_change = ap (after_change (at_moment (between first) here 30_000 0 0 None)) changes
-
--- the reading, the change, and no other reading
-abbrev over_a_change : List Happening
-over_a_change =
-    Record (record_kinds.Read first) ∷ Change next ∷ runs 30_000 ∷ Overdue ∷ runs 30_000 ∷ Overdue ∷ runs 30_000
-    ∷ Overdue ∷ braked
-
-abbrev changed_stop : List Moment
-changed_stop = halts line line_brakes (by_release bounds) first 1 here 30_000 changed (pos 5_311_800_000_000) 3 2
-
-abbrev changed_moments : List Moment
-changed_moments =
-    at_moment (between first) here 30_000 0 0 None
-    ∷ at_moment changed here 30_000 0 0 None
-    ∷ at_moment changed (pos 5_251_800_000_000) 30_000 1 1 None
-    ∷ at_moment changed (pos 5_251_800_000_000) 30_000 0 1 (Some 0)
-    ∷ at_moment changed (pos 5_281_800_000_000) 30_000 1 2 (Some 1)
-    ∷ at_moment changed (pos 5_281_800_000_000) 30_000 0 2 (Some 1)
-    ∷ at_moment changed (pos 5_311_800_000_000) 30_000 1 3 (Some 2)
-    ∷ at_moment changed (pos 5_311_800_000_000) 30_000 0 3 (Some 2)
-    ∷ changed_stop
-
-changed_steps : AreSteps line line_brakes (by_release bounds) first 1 here 30_000 its_start over_a_change
-    changed_moments
-unfolding after
-changed_steps =
-    let to_the_end = halting line line_brakes (by_release bounds) first 1 here 30_000 changed (pos 5_311_800_000_000)
-    3 2 in (
-      to_first line line_brakes (by_release bounds) first 1 here 30_000 judged,
-      (to_change, (refl, (refl, (refl, (refl, (refl, (refl, to_the_end))))))),
-    )
-
-changed_may : AreHolding line line_brakes (by_release bounds) first 1 here 30_000
-    (May line line_brakes (by_release bounds) first 1 here 30_000 timely (by_timely first))
-    its_start over_a_change changed_moments
-changed_may =
-    let run = running line line_brakes (by_release bounds) first 1 here 30_000 timely (by_timely first) changed in
-    let none = not_yet line line_brakes (by_release bounds) first 1 here 30_000 in
-    let one = still line line_brakes (by_release bounds) first 1 here 30_000 0 (omega arith) in
-    let two = still line line_brakes (by_release bounds) first 1 here 30_000 1 (omega arith) in
-    let to_the_end = halting_may line line_brakes (by_release bounds) first 1 here 30_000 timely (by_timely first)
-    changed
-    (pos 5_311_800_000_000) 3 2 in (
-      λ promises. first_true,
-      (
-        next_open,
-        (
-          run here 0 None none,
-          (
-            tt,
-            (
-              run (pos 5_251_800_000_000) 1 (Some 0) one,
-              (tt, (run (pos 5_281_800_000_000) 2 (Some 1) two, (tt, to_the_end))),
-            ),
-          ),
-        ),
-      ),
-    )
-
-changed_moments_are : moments (by_release bounds) its_start over_a_change ≡ changed_moments
-changed_moments_are =
-    are_moments line line_brakes (by_release bounds) first 1 here 30_000 its_start over_a_change changed_moments
-    changed_steps
-
-changed_authorities : All Ends (its_start ∷ moments (by_release bounds) its_start over_a_change)
-unfolding after_reading
-changed_authorities =
-    let e = ends_changed in
-    subst (λ (ns : List Moment). All Ends (its_start ∷ ns)) (sym changed_moments_are)
-    (all_of Ends (its_start ∷ changed_moments)
-    (ends_by, (ends_by, (e, (e, (e, (e, (e, (e, (e, (e, (e, (e, (e, (e, (e, (e, (e, (e, (e, (e, tt)))))))))))))))))))))
-
-changed_readings : AllJudged (by_release bounds) (KeepsBounds bounds) its_start over_a_change
-changed_readings =
-    keep_all its_start over_a_change changed_moments changed_steps (
-      first_keeps,
-      (
-        (λ r is untripped. absurd (none-some r is)),
-        (
-          (λ r is untripped. absurd (none-some r is)),
-          (
-            (λ r is
-                untripped. absurd (none-some r is)),
-            (
-              (λ r is untripped. absurd (none-some r is)),
-              (
-                (λ r is untripped. absurd
-                    (none-some r is)),
-                (
-                  (λ r is untripped. absurd (none-some r is)),
-                  (
-                    (λ r is untripped. absurd (none-some r is)),
-                    (
-                      (λ
-                          r is untripped. absurd (none-some r is)),
-                      (
-                        (λ r is untripped. absurd (none-some r is)),
-                        (
-                          (λ r is untripped. absurd
-                              (none-some r is)),
-                          (
-                            (λ r is untripped. absurd (none-some r is)),
-                            (
-                              (λ r is untripped. absurd (none-some r is)),
-                              (
-                                (λ
-                                    r is untripped. absurd (none-some r is)),
-                                (
-                                  (λ r is untripped. absurd (none-some r is)),
-                                  (
-                                    (λ r is untripped. absurd
-                                        (none-some r is)),
-                                    (
-                                      (λ r is untripped. absurd (none-some r is)),
-                                      (
-                                        (λ r is untripped. absurd (none-some r is)),
-                                        (
-                                          (λ
-                                              r is untripped. absurd (none-some r is)),
-                                          tt,
-                                        ),
-                                      ),
-                                    ),
-                                  ),
-                                ),
-                              ),
-                            ),
-                          ),
-                        ),
-                      ),
-                    ),
-                  ),
-                ),
-              ),
-            ),
-          ),
-        ),
-      ),
-    )
-
--- A RIDE OVER A CHANGE OF DATA: the promise keeps the data of its reading, and from the change on the trip place is by
--- the new ones
-a_changed_ride : IsReleaseRide bounds (delays 1) 1 1000 its_start over_a_change
-a_changed_ride = record {
-  start = record { is_open = line_open_under (pos 2) (pos 0) ending; none = refl };
-  ride =
-      is_ride line line_brakes (by_release bounds) first 1 here 30_000 timely (by_timely first) its_start over_a_change
-      changed_moments changed_steps changed_may;
-  authorities = changed_authorities;
-  readings = changed_readings;
-}
-
-changed_stops_by_law : LawOfReleasePlaces → (last_of changed_moments its_start).place ≤ℤ pos 5_400_000_000_000
-changed_stops_by_law law =
-    let all = subst (λ (ns : List Moment). IsNeverPast 1 1000 ns) changed_moments_are
-    (law bounds (delays 1) 1 1000 its_start over_a_change (omega arith) a_changed_ride) in
-    all 18 its_start (omega arith)
-
-changed_end : (last_of changed_moments its_start).place ≡ pos 5_395_133_333_333
-changed_end = refl
-
--- by the rows it has the same moments, but for what is promised
-changed_same_by_law : LawOfSameTrains →
-    map unpromised (moments by_rows its_start over_a_change) ≡ map unpromised changed_moments
-changed_same_by_law law =
-    law bounds its_start over_a_change ∙ ap (λ (ns : List Moment). map unpromised ns) changed_moments_are
-
--- ---- what the premises are for
-
--- LATE: with a brake that works a ds later, which the times that were handed in don't hold, all else is as before, and
--- the train passes the SvL
-abbrev late_rest : List Happening
-late_rest = runs 30_000 ∷ Overdue ∷ braked
-
-abbrev late_start : Moment
-late_start = start line line_brakes (by_release bounds) first 2 here 30_000
-
-abbrev late_stop : List Moment
-late_stop =
-    moment line line_brakes (by_release bounds) first 2 here 30_000 (after_reading (between first) second) (pos
-    5_341_800_000_000) 30_000 1 4
-    (Some 3)
-    ∷ moment line line_brakes (by_release bounds) first 2 here 30_000 (after_reading (between first) second) (pos
-    5_341_800_000_000) 30_000 0
-    4 (Some 3)
-    ∷ to_the_stop line line_brakes (by_release bounds) first 2 here 30_000 (pos 5_341_800_000_000) 4 3
-
-abbrev late_moments : List Moment
-late_moments = to_the_brake line line_brakes (by_release bounds) first 2 here 30_000 late_stop
-
-abbrev late_happenings : List Happening
-late_happenings = happenings first 30_000 late_rest
-
-abbrev late : TickRule
-late = IsByOrders (delays 2) 1
-
-by_late : Allows line first 2 late
-by_late age m to length by = by
-
-late_not_held : (age : ℕ) → HoldsDelays (delays 2) (promised line first age) → ⊥
-late_not_held age h = delays_not_held (pos 2) (pos 0) ending first age (omega arith) h
-
-late_judged : AreJudged line line_brakes (by_release bounds) first 2 here 30_000
-late_judged = record {
-  taken = second_taken;
-  gives = or_right _ _ first_promises;
-  free = first_free;
-  none = no_promise _ _ _ _ _ (second_uncovered first) (second_tripped first);
-  orders = an_order _ _ (second_tripped first);
-}
-
-late_is : IsWorked line line_brakes (by_release bounds) first 2 here 30_000 late by_late late_rest late_stop
-unfolding after
-late_is =
-    worked line line_brakes (by_release bounds) first 2 here 30_000 late by_late late_judged (record {
-      one = first_true;
-      two = λ
-          promises. second_true first;
-    })
-    (omega arith) late_rest late_stop
-    (refl, (refl, braking_steps line line_brakes (by_release bounds) first 2 here 30_000 (pos 5_341_800_000_000) 4 3)) (
-      running line line_brakes (by_release bounds) first 2 here 30_000 late by_late (after_reading (between first)
-          second) (pos
-          5_311_800_000_000) 3 (Some 2)
-          (still line line_brakes (by_release bounds) first 2 here 30_000 2 (omega arith)),
-      (
-        tt,
-        braking_may line line_brakes (by_release bounds) first 2 here 30_000 late by_late (pos 5_341_800_000_000) 4
-            3,
-      ),
-    )
-
-late_passes : (last_of late_moments late_start).place ≡ pos 5_425_133_333_333
-late_passes = refl
-
--- other judgings: of a reading that finds an untripped train two tests are asked
-abbrev by_tests : (Supervision → OdometerReading → Bool) → (Supervision → OdometerReading → Bool) → Judging
-by_tests one two = record {
-  promises = λ s r. (row_of s r).covered || (is_untripped (row_of s r) && one s r && two s r);
-  orders = λ s r. is_ordered (row_of s r);
-}
-
--- which are those of the bounds and the trip place
-as_by_release : by_release bounds
-    ≡ by_tests (λ s r. is_within_bounds bounds s.train_and_track r)
-    (λ s r. has_trip_place bounds s.train_and_track s.authority)
-as_by_release = refl
-
-its_trip_test : has_trip_place bounds line ending ≡ true
-its_trip_test = passes_trip bounds line 960 1000 1 trip_place
-
--- without W
-abbrev without_width : Judging
-without_width =
-    by_tests (λ s r. nat_le (excess_of s.train_and_track r) 15_000)
-    (λ s r. has_trip_place bounds s.train_and_track s.authority)
-
--- without U
-abbrev without_excess : Judging
-without_excess =
-    by_tests (λ s r. int_le r.max (r.min +ℤ pos (7 * centimetre)))
-    (λ s r. has_trip_place bounds s.train_and_track s.authority)
-
--- without the test of T_traction
-abbrev has_place : TrainAndTrack → Authority → Bool
-has_place d (Stop eoa svl release) =
-    nat_le (eoa + 7) svl && nat_le (notches release + 15_000) (notches (calculated d svl (eoa + 7)))
-has_place d (Limit loa speed) = false
-
-abbrev without_time : Judging
-without_time =
-    by_tests (λ s r. is_within_bounds bounds s.train_and_track r) (λ s r. has_place s.train_and_track s.authority)
-
--- WIDE: a reading of 8 cm
-wide_untripped : is_untripped (row_of before wide) ≡ true
-unfolding ride_line plain_train_and_track plain_national plain_band first wide fast row_in situation_with targets_of
-    mrsp
-    is_covered_in state_in commands_in commands_after emergency_after triggers_of limits_of release_start
-    reaction_times slopes_of slope_at stepped place_at corner arc arc_back back
-wide_untripped =
-    ap (λ now. is_untripped (row_in line nothing_held wide now)) (opening_situation line ending wide) ∙ refl
-
-wide_test : nat_le (excess_of line wide) 15_000 ≡ true
-unfolding ride_line plain_train_and_track plain_national first wide reaction_times
-wide_test = refl
-
-wide_free : is_ordered (row_of before wide) ≡ false
-unfolding ride_line plain_train_and_track plain_national plain_band first wide fast row_in situation_with targets_of
-    mrsp
-    is_covered_in state_in commands_in commands_after emergency_after triggers_of limits_of release_start
-    reaction_times slopes_of slope_at stepped place_at corner arc arc_back back
-wide_free = ap (λ now. is_ordered (row_in line nothing_held wide now)) (opening_situation line ending wide) ∙ refl
-
-abbrev beyond : ℤ
-beyond = pos 5_227_200_000_000
-
-abbrev wide_start : Moment
-wide_start = start line line_brakes without_width wide 1 beyond 30_000
-
-abbrev wide_stop : List Moment
-wide_stop = to_the_stop line line_brakes without_width wide 1 beyond 30_000 (pos 5_317_200_000_000) 3 2
-
-abbrev wide_moments : List Moment
-wide_moments = to_the_brake line line_brakes without_width wide 1 beyond 30_000 wide_stop
-
-abbrev wide_happenings : List Happening
-wide_happenings = happenings wide 30_000 braked
-
-wide_taken : step (between wide) (record_kinds.Read second) ≡ Ok (after_reading (between wide) second)
-unfolding step after_reading first wide second
-wide_taken = refl
-
-wide_judged : AreJudged line line_brakes without_width wide 1 beyond 30_000
-wide_judged = record {
-  taken = wide_taken;
-  gives = or_right _ _ (and_from _ _ (and_from _ _ wide_untripped wide_test) its_trip_test);
-  free = wide_free;
-  none = no_promise _ _ _ _ _ (second_uncovered wide) (second_tripped wide);
-  orders = an_order _ _ (second_tripped wide);
-}
-
-wide_true : AreTrue line line_brakes without_width wide 1 beyond 30_000
-unfolding ride_line plain_train_and_track plain_national first wide second after_reading
-wide_true = record {
-  one = record { front = omega (arith, ints); speed = omega arith };
-  two = λ promises. record { front = omega (arith, ints); speed = omega arith };
-}
-
-wide_is : IsWorked line line_brakes without_width wide 1 beyond 30_000 timely (by_timely wide) braked wide_stop
-wide_is =
-    worked line line_brakes without_width wide 1 beyond 30_000 timely (by_timely wide) wide_judged wide_true (omega
-    arith) braked wide_stop
-    (braking_steps line line_brakes without_width wide 1 beyond 30_000 (pos 5_317_200_000_000) 3 2)
-    (braking_may line line_brakes without_width wide 1 beyond 30_000 timely (by_timely wide) (pos 5_317_200_000_000) 3
-    2)
-
--- the train ends a millimetre past the SvL, so without W it isn't kept
-wide_passes : AreKeptByOrders without_width IsByItsSvl → ⊥
-wide_passes h =
-    let all = subst (λ (ns : List Moment). All (KeepsPromise IsByItsSvl 1) ns)
-    wide_is.moments_are
-    (h (delays 1) 1 wide_start wide_happenings (omega arith)
-    (record { is_open = line_open_under (pos 2) (pos 0) ending; none = refl }) wide_is.ride) in
-    let by = all 17 wide_start (omega arith) _ refl 960 1000 1 refl in
-    absurd (omega (arith, ints, by))
-
--- FAST: a reading of 7 cm that may be 11 km/h more, and is
-fast_untripped : is_untripped (row_of before fast) ≡ true
-unfolding ride_line plain_train_and_track plain_national plain_band first wide fast row_in situation_with targets_of
-    mrsp
-    is_covered_in state_in commands_in commands_after emergency_after triggers_of limits_of release_start
-    reaction_times slopes_of slope_at stepped place_at corner arc arc_back back
-fast_untripped =
-    ap (λ now. is_untripped (row_in line nothing_held fast now)) (opening_situation line ending fast) ∙ refl
-
-fast_test : int_le fast.max (fast.min +ℤ pos (7 * centimetre)) ≡ true
-unfolding first fast
-fast_test = refl
-
-fast_free : is_ordered (row_of before fast) ≡ false
-unfolding ride_line plain_train_and_track plain_national plain_band first wide fast row_in situation_with targets_of
-    mrsp
-    is_covered_in state_in commands_in commands_after emergency_after triggers_of limits_of release_start
-    reaction_times slopes_of slope_at stepped place_at corner arc arc_back back
-fast_free = ap (λ now. is_ordered (row_in line nothing_held fast now)) (opening_situation line ending fast) ∙ refl
-
-fast_taken : step (between fast) (record_kinds.Read second) ≡ Ok (after_reading (between fast) second)
-unfolding step after_reading first fast second
-fast_taken = refl
-
-fast_judged : AreJudged line line_brakes without_excess fast 1 here 180_000
-fast_judged = record {
-  taken = fast_taken;
-  gives = or_right _ _ (and_from _ _ (and_from _ _ fast_untripped fast_test) its_trip_test);
-  free = fast_free;
-  none = no_promise _ _ _ _ _ (second_uncovered fast) (second_tripped fast);
-  orders = an_order _ _ (second_tripped fast);
-}
-
-fast_true : AreTrue line line_brakes without_excess fast 1 here 180_000
-unfolding ride_line plain_train_and_track plain_national first fast
-fast_true = record {
-  one = record { front = omega (arith, ints); speed = omega arith };
-  two = λ promises. absurd (false≢true (sym fast_judged.none ∙ promises));
-}
-
-fast_is : IsWorked line line_brakes without_excess fast 1 here 180_000 timely (by_timely fast) [] []
-fast_is = worked line line_brakes without_excess fast 1 here 180_000 timely (by_timely fast) fast_judged fast_true
-    (omega arith) [] [] tt tt
-
--- it is past the SvL before the brake works, so without U that isn't kept
-fast_passes : AreKeptByOrders without_excess IsByItsSvl → ⊥
-fast_passes h =
-    let start = start line line_brakes without_excess fast 1 here 180_000 in
-    let all = subst (λ (ns : List Moment). All (KeepsPromise IsByItsSvl 1) ns) fast_is.moments_are
-    (h (delays 1) 1 start (happenings fast 180_000 []) (omega arith)
-    (record { is_open = line_open_under (pos 2) (pos 0) ending; none = refl }) fast_is.ride) in
-    let by = all 6 start (omega arith) _ refl 960 1000 1 refl in
-    absurd (omega (arith, ints, by))
-
--- SLOWLY CUT: a train whose traction may push for 0.4 s, though T_be is 0.3 s
-unfoldable slow_cut : TrainAndTrack
-slow_cut = record line { train = record (line.train) { cut_off_time = pos 4 } }
-
-two_fit_cut : fits computed (slopes_of Safe slow_cut) (t_be slow_cut) (place_of_cell (pos 1000)) (place_of_cell (pos
-    967)) 2
-    ≡ true
-unfolding slow_cut ride_line plain_train_and_track plain_national plain_band slopes_of slope_at stepped place_at corner
-    arc arc_back back
-two_fit_cut = refl
-
-cut_trip_test : has_place slow_cut ending ≡ true
-cut_trip_test =
-    let two = fits_within slow_cut 1000 967 2 (omega arith) two_fit_cut in
-    and_from _ _ refl (le_is_test (notches 1 + 15_000) (notches (calculated slow_cut 1000 967)) (omega arith))
-
-not_in_time : (reaction_times slow_cut).traction ≤ t_be slow_cut → ⊥
-unfolding slow_cut ride_line plain_train_and_track plain_national reaction_times
-not_in_time le = absurd (omega arith)
-
-cut_test : is_within_bounds bounds slow_cut first ≡ true
-unfolding slow_cut ride_line plain_train_and_track plain_national first reaction_times
-cut_test = refl
-
--- its times hold a brake that works 0.4 s after a reading
-cut_held : (age : ℕ) → HoldsDelays (delays 2) (promised slow_cut first age)
-unfolding slow_cut ride_line plain_train_and_track plain_national reaction_times
-cut_held age = record { traction = λ lower. omega arith; emergency = omega arith }
-
-abbrev cut_timely : TickRule
-cut_timely = IsByTimelyOrders (delays 2) 1
-
-by_cut : Allows slow_cut first 2 cut_timely
-by_cut age m to length by = record { times = cut_held age; orders = by }
-
-cut_brakes : Brakes slow_cut
-unfolding slow_cut ride_line plain_train_and_track plain_national plain_band slopes_of slope_at
-cut_brakes x y brakes = braking_step (pos 2) (pos 0) x y brakes
-
-cut_accepted : (kind : SlopeKind) → IsAcceptedKind kind slow_cut
-unfolding slow_cut ride_line plain_train_and_track plain_national plain_band slope_at
-cut_accepted Safe =
-    let k = (line_open_under (pos 2) (pos 0) ending).usable Safe in record { strong = k.strong; even = k.even }
-cut_accepted Expected =
-    let k = (line_open_under (pos 2) (pos 0) ending).usable Expected in record { strong = k.strong; even = k.even }
-cut_accepted Normal =
-    let k = (line_open_under (pos 2) (pos 0) ending).usable Normal in record { strong = k.strong; even = k.even }
-
-cut_open : IsOpen (before_on slow_cut)
-unfolding slow_cut ride_line plain_train_and_track plain_band
-cut_open = record { bands = (line_open_under (pos 2) (pos 0) ending).bands; usable = cut_accepted }
-
-cut_untripped : is_untripped (row_of (before_on slow_cut) first) ≡ true
-unfolding ride_line plain_train_and_track plain_national plain_band first slow_cut row_in situation_with targets_of mrsp
-    is_covered_in state_in commands_in commands_after emergency_after triggers_of limits_of release_start
-    reaction_times slopes_of slope_at stepped place_at corner arc arc_back back
-cut_untripped =
-    ap (λ now. is_untripped (row_in slow_cut nothing_held first now)) (opening_situation slow_cut ending first) ∙ refl
-
-cut_free : is_ordered (row_of (before_on slow_cut) first) ≡ false
-unfolding ride_line plain_train_and_track plain_national plain_band first slow_cut row_in situation_with targets_of mrsp
-    is_covered_in state_in commands_in commands_after emergency_after triggers_of limits_of release_start
-    reaction_times slopes_of slope_at stepped place_at corner arc arc_back back
-cut_free =
-    ap (λ now. is_ordered (row_in slow_cut nothing_held first now)) (opening_situation slow_cut ending first) ∙ refl
-
-cut_uncovered : (row_of (between_on slow_cut first) second).covered ≡ false
-unfolding slow_cut ride_line plain_train_and_track plain_national plain_band second row_in situation_with targets_of
-    mrsp
-    is_covered_in limits_of release_start reaction_times slopes_of slope_at stepped place_at corner arc arc_back back
-    after_reading
-cut_uncovered =
-    ap (λ now. is_covered_in slow_cut second now) (situation_in (between_on slow_cut first) second refl) ∙ refl
-
-cut_tripped : (row_of (between_on slow_cut first) second).held.eb ≡ true
-unfolding after_reading second
-cut_tripped = true_unless _ (λ eb.
-    let low = not_past_eoa (between_on slow_cut first) second 960 1000 1 refl eb in absurd (omega (arith, ints, low)))
-
-cut_taken : step (between_on slow_cut first) (record_kinds.Read second)
-    ≡ Ok (after_reading (between_on slow_cut first) second)
-unfolding step after_reading first second
-cut_taken = refl
-
-cut_judged : AreJudged slow_cut cut_brakes without_time first 2 here 30_000
-cut_judged = record {
-  taken = cut_taken;
-  gives = or_right _ _ (and_from _ _ (and_from _ _ cut_untripped cut_test) cut_trip_test);
-  free = cut_free;
-  none = no_promise _ _ _ _ _ cut_uncovered cut_tripped;
-  orders = an_order _ _ cut_tripped;
-}
-
-cut_true : AreTrue slow_cut cut_brakes without_time first 2 here 30_000
-unfolding slow_cut ride_line plain_train_and_track plain_national first second after_reading
-cut_true = record {
-  one = record { front = omega (arith, ints); speed = omega arith };
-  two = λ promises. record { front = omega (arith, ints); speed = omega arith };
-}
-
-abbrev cut_stop : List Moment
-cut_stop =
-    moment slow_cut cut_brakes without_time first 2 here 30_000 (after_reading (between_on slow_cut first) second)
-    (pos 5_341_800_000_000) 30_000 1 4 (Some 3)
-    ∷ moment slow_cut cut_brakes without_time first 2 here 30_000 (after_reading (between_on slow_cut first) second)
-    (pos 5_341_800_000_000) 30_000 0 4 (Some 3)
-    ∷ to_the_stop slow_cut cut_brakes without_time first 2 here 30_000 (pos 5_341_800_000_000) 4 3
-
-cut_is : IsWorked slow_cut cut_brakes without_time first 2 here 30_000 cut_timely by_cut late_rest cut_stop
-unfolding after
-cut_is =
-    worked slow_cut cut_brakes without_time first 2 here 30_000 cut_timely by_cut cut_judged cut_true (omega arith)
-    late_rest cut_stop (
-      refl,
-      (refl, braking_steps slow_cut cut_brakes without_time first 2 here 30_000 (pos 5_341_800_000_000) 4 3),
-    ) (
-      running slow_cut cut_brakes without_time first 2 here 30_000 cut_timely by_cut (after_reading (between_on
-          slow_cut first) second)
-          (pos 5_311_800_000_000) 3 (Some 2)
-          (still slow_cut cut_brakes without_time first 2 here 30_000 2 (omega arith)),
-      (
-        tt,
-        braking_may slow_cut cut_brakes without_time first 2 here 30_000 cut_timely by_cut (pos 5_341_800_000_000)
-            4 3,
-      ),
-    )
-
--- so it ends past the SvL, though its times hold the delays: T_traction has to be at most T_be
-cut_passes : AreKeptByOrders without_time IsByItsSvl → ⊥
-cut_passes h =
-    let start = start slow_cut cut_brakes without_time first 2 here 30_000 in
-    let all = subst (λ (ns : List Moment). All (KeepsPromise IsByItsSvl 1) ns) cut_is.moments_are
-    (h (delays 2) 1 start (happenings first 30_000 late_rest) (omega arith) (record { is_open = cut_open; none = refl })
-    cut_is.ride) in
-    let by = all 19 start (omega arith) _ refl 960 1000 1 refl in
-    absurd (omega (arith, ints, by))
-
--- OLD DATA: were the trip places those of the first data, a train could pass. After a change to the slowly cut train,
--- under the same authority, an untripped reading gives no promise and orders nothing
-unfoldable again : OdometerReading
-again = record first { time = 1 }
-
-abbrev cut_next : Supervision
-cut_next = before_on slow_cut
-
-abbrev cut_changed : Supervision
-cut_changed = taken_over cut_next (between first)
-
-cut_unrestricted : take_over_fault cut_next.train_and_track.track.length_cm (between first).restrictions ≡ None
-unfolding after_reading
-cut_unrestricted = rw none_in refl
-
-cut_changes : change cut_next (between first) ≡ Ok cut_changed
-unfolding change
-cut_changes = ap (λ f. unless_refused f cut_changed) cut_unrestricted
-
-again_free : is_ordered (row_of cut_changed again) ≡ false
-unfolding ride_line plain_train_and_track plain_national plain_band first again slow_cut row_in situation_with
-    targets_of
-    mrsp
-    is_covered_in state_in commands_in commands_after emergency_after triggers_of limits_of release_start
-    reaction_times slopes_of slope_at stepped place_at corner arc arc_back back after_reading
-again_free =
-    ap (λ now. is_ordered (row_in slow_cut (commands_in line nothing_held first now) again
-    (situation_of cut_changed again))) (opening_situation line ending first)
-    ∙ ap (λ now. is_ordered (row_in slow_cut
-    (commands_in line nothing_held first (situation_with line ending [] first)) again now))
-    (situation_in cut_changed again refl)
-    ∙ refl
-
-again_uncovered : (row_of cut_changed again).covered ≡ false
-unfolding ride_line plain_train_and_track plain_national plain_band first again slow_cut row_in situation_with
-    targets_of
-    mrsp
-    is_covered_in limits_of release_start reaction_times slopes_of slope_at stepped place_at corner arc arc_back back
-    after_reading
-again_uncovered = ap (λ now. is_covered_in slow_cut again now) (situation_in cut_changed again refl) ∙ refl
-
-late_test : nat_le (reaction_times slow_cut).traction (t_be slow_cut) ≡ false
-unfolding slow_cut ride_line plain_train_and_track plain_national reaction_times
-late_test = refl
-
-and_false : (a b : Bool) → b ≡ false → (a && b) ≡ false
-and_false true b e = e
-and_false false b e = refl
-
-neither : (a b : Bool) → a ≡ false → b ≡ false → (a || b) ≡ false
-neither a b e f = rw (e, f) refl
-
-again_none : (by_release bounds).promises cut_changed again ≡ false
-again_none = neither _ _ again_uncovered (and_false _ _ (and_false _ _ late_test))
-
-again_taken : step cut_changed (record_kinds.Read again) ≡ Ok (after_reading cut_changed again)
-unfolding step after_reading first again
-again_taken = refl
-
-again_within : IsWithinBounds bounds slow_cut again
-unfolding slow_cut ride_line plain_train_and_track plain_national first again reaction_times
-again_within = record { width = omega (arith, ints); excess = omega arith }
-
--- the train goes on by no promise
-abbrev free_moment : ℤ → ℕ → Moment
-free_moment place silence = record {
-  supervision = after_reading cut_changed again;
-  place = place;
-  speed = 30_000;
-  silence = silence;
-  order = None;
-  promise = None;
-}
-
-abbrev old_happenings : List Happening
-old_happenings =
-    Record (record_kinds.Read first) ∷ Change cut_next ∷ Record (record_kinds.Read again)
-    ∷ Tick 30_000 200_000_000_000 ∷ []
-
-abbrev old_moments : List Moment
-old_moments =
-    at_moment (between first) here 30_000 0 0 None ∷ at_moment cut_changed here 30_000 0 0 None ∷ free_moment here 0
-    ∷ free_moment (pos 5_421_800_000_000) 1 ∷ []
-
-to_cut : after (by_release bounds) (at_moment (between first) here 30_000 0 0 None) (Change cut_next)
-    ≡ at_moment cut_changed here 30_000 0 0 None
-unfolding after
-to_cut = ap (after_change (at_moment (between first) here 30_000 0 0 None)) cut_changes
-
-to_again : after (by_release bounds) (at_moment cut_changed here 30_000 0 0 None) (Record (record_kinds.Read again))
-    ≡ free_moment here 0
-unfolding after
-to_again =
-    ap (λ t. after_record (by_release bounds) (at_moment cut_changed here 30_000 0 0 None) (record_kinds.Read again) t)
-    again_taken
-    ∙ ap (λ (c : Bool). record {
-      supervision = after_reading cut_changed again;
-      place = here;
-      speed = 30_000;
-      silence = 0;
-      order = if is_ordered (row_of cut_changed again) then Some 0 else None;
-      promise = if c then Some (record { under = cut_changed; reading = again; age = 0 })
-          else if is_ordered (row_of cut_changed again) then Some (promised line first 0)
-          else None;
-    }) again_none
-    ∙ ap (λ (c : Bool). record {
-      supervision = after_reading cut_changed again;
-      place = here;
-      speed = 30_000;
-      silence = 0;
-      order = if c then Some 0 else None;
-      promise = if c then Some (promised line first 0) else None;
-    }) again_free
-
-old_steps : AreSteps line line_brakes (by_release bounds) first 1 here 30_000 its_start old_happenings old_moments
-unfolding after
-old_steps =
-    (to_first line line_brakes (by_release bounds) first 1 here 30_000 judged, (to_cut, (to_again, (refl, tt))))
-
-old_may : AreHolding line line_brakes (by_release bounds) first 1 here 30_000
-    (May line line_brakes (by_release bounds) first 1 here 30_000 timely (by_timely first))
-    its_start old_happenings old_moments
-old_may = (
-  λ promises. first_true,
-  (cut_open, (λ promises. absurd (false≢true (sym again_none ∙ promises)), (λ c e. absurd (none-some c e), tt))),
-)
-
-old_moments_are : moments (by_release bounds) its_start old_happenings ≡ old_moments
-old_moments_are =
-    are_moments line line_brakes (by_release bounds) first 1 here 30_000 its_start old_happenings old_moments old_steps
-
--- the authorities end with a trip place by the data that were first
-abbrev EndsByFirst : Moment → Moment → Type 0
-EndsByFirst m n = EndsWithTripBy bounds m.supervision.train_and_track 1000 n.supervision.authority
-
-old_authorities : All (EndsByFirst its_start) (its_start ∷ moments (by_release bounds) its_start old_happenings)
-unfolding after_reading
-old_authorities =
-    subst (λ (ns : List Moment). All (EndsByFirst its_start) (its_start ∷ ns)) (sym old_moments_are)
-    (all_of (EndsByFirst its_start) (its_start ∷ old_moments) (ends_by, (ends_by, (ends_by, (ends_by, (ends_by, tt))))))
-
-again_keeps : KeepsIn cut_changed (Record (record_kinds.Read again))
-unfolding step first again after_reading
-again_keeps = λ r e untripped. subst (λ (x : OdometerReading). IsWithinBounds bounds slow_cut x) (same_Some _ _ e)
-    again_within
-
-old_readings : AllJudged (by_release bounds) (KeepsBounds bounds) its_start old_happenings
-old_readings =
-    keep_all its_start old_happenings old_moments old_steps (
-      first_keeps,
-      ((λ r is untripped. absurd (none-some r is)), (again_keeps, ((λ r is untripped. absurd (none-some r is)), tt))),
-    )
-
--- so the trip places have to be by the data in force
-old_data_pass : ((m : Moment) (hs : List Happening) → IsRideStart m → IsRide (by_release bounds) timely 1 m hs →
-    All (EndsByFirst m) (m ∷ moments (by_release bounds) m hs) → AllJudged (by_release bounds) (KeepsBounds bounds) m
-    hs →
-    IsNeverPast 1 1000 (moments (by_release bounds) m hs)) → ⊥
-old_data_pass h =
-    let all = subst (λ (ns : List Moment). IsNeverPast 1 1000 ns) old_moments_are
-    (h its_start old_happenings (record { is_open = line_open_under (pos 2) (pos 0) ending; none = refl })
-    (is_ride line line_brakes (by_release bounds) first 1 here 30_000 timely (by_timely first) its_start old_happenings
-    old_moments old_steps old_may) old_authorities old_readings) in
-    let by = all 3 its_start (omega arith) in
-    absurd (omega (arith, ints, by))

@@ -1,6 +1,6 @@
 -- A ride in release speed monitoring at scale 2, where a tick is 0.05 s: the train of `ReleaseRideCases` has its first
 -- reading, and then readings are missing. It runs on at 2 km/h until the brake works, and stands 0.9 cm before the SvL.
-use Rattle.std.proofs.Common.{◌≡◌, ℕ, ℤ, pos, Bool, true, false, List, [], ◌∷◌, ◌+◌, ◌*◌, ◌<◌, ◌≤◌, ◌+ℤ◌, ◌*ℤ◌, ◌≤ℤ◌}
+use Rattle.std.proofs.Common.{◌≡◌, ℕ, ℤ, pos, Bool, true, false, List, [], ◌∷◌, ◌+◌, ◌*◌, ◌<◌, ◌≤◌, ◌+ℤ◌, ◌≤ℤ◌}
 use Rattle.std.proofs.Common.{refl, subst, sym, ap, ◌∙◌, arith}
 use Rattle.std.specs.Prelude.{All, Option, Some, None, ⊤, ◌||◌, if◌then◌else◌}
 use Rattle.std.proofs.lemmas.Int.{ints}
@@ -12,19 +12,18 @@ use Rattle.sdm_rules.specs.declared.motions.Point.{Point}
 use Rattle.sdm_rules.specs.declared.records.Event.TheVariants as record_kinds
 use Rattle.sdm_rules.specs.Decelerations.{slopes_of}
 use Rattle.sdm_rules.specs.Motion.{BrakesAtLeast, IsStep}
-use Rattle.sdm_rules.specs.Reaction.{reaction_times}
 use Rattle.sdm_rules.specs.Records.{step}
 use Rattle.sdm_rules.specs.Slopes.{Slopes}
-use Rattle.sdm_rules.specs.Supervision.{Supervision, after_reading, row_of}
+use Rattle.sdm_rules.specs.Supervision.{after_reading, row_of}
 use Rattle.sdm_ride.specs.Happenings.{Happening, Record, Unread, Overdue, Change, Tick}
 use Rattle.sdm_ride.specs.Moments.{Moment, Promise, after, is_ordered, moments}
 use Rattle.sdm_ride.specs.Orders.{judged_in}
-use Rattle.sdm_ride.specs.Rides.{IsByTimelyOrders, IsRide, IsTick, IsTrueReading, MayHappen}
+use Rattle.sdm_ride.specs.Rides.{IsByTimelyOrders, IsRide, IsTrueReading, MayHappen}
 use Rattle.sdm_ride.specs.RideLaws.{IsNeverPast}
 use Rattle.sdm_release_ride.specs.TripPlaces.{IsWithinBounds, by_release, promises_svl}
 use Rattle.sdm_release_ride.specs.ReleaseRideLaws.{AllJudged, EndsWithTripBy, IsReleaseRide, KeepsBounds}
 use Rattle.sdm_release_ride.specs.ReleaseRideLaws.{LawOfReleasePlaces}
-use Rattle.sdm_cases.proofs.Journeys.{plain_band, plain_national, plain_train_and_track}
+use Rattle.sdm_cases.proofs.Journeys.{plain_national, plain_train_and_track}
 use Rattle.sdm_cases.proofs.ReleaseRideCases.{before, between, bounds, ending, ends_by, first, first_free}
 use Rattle.sdm_cases.proofs.ReleaseRideCases.{first_promises, first_within, line}
 use Rattle.sdm_cases.proofs.RideLine.{delays, delays_held, line_open_under, line_slopes, ride_line}
