@@ -10,3 +10,4 @@ pub mod CallJourneys
 pub mod CallSteps
 pub mod CallCases
 pub mod OpeningCases
+pub mod CallLawCases

@@ -1,5 +1,5 @@
 -- The brakes along a run: what one message or change leaves is what the next one finds.
-use Rattle.std.proofs.Common.{◌≡◌, ◌⊎◌, ◌∙◌, ℕ, true, List, [], ◌∷◌, Option, Some, None, refl, ap, subst, sym, inl, inr, arith}
+use Rattle.std.proofs.Common.{◌≡◌, List, [], ◌∷◌, Option, Some, None, refl, subst, sym, inl, inr}
 use Rattle.std.specs.Prelude.{All, IsTrue, Result, Ok, Err, is_some}
 use Rattle.std.proofs.lemmas.List.Elements.{All-nil, All-cons}
 use Rattle.sdm_rules.specs.declared.authorities.Authority.{Authority}
@@ -7,7 +7,7 @@ use Rattle.sdm_rules.specs.declared.faults.AuthorityFault.{AuthorityFault}
 use Rattle.sdm_rules.specs.declared.records.Event.TheVariants as record_kinds
 use Rattle.sdm_rules.specs.Records.{authority_fault}
 use Rattle.sdm_rules.specs.Supervision.{Supervision}
-use Rattle.sdm_ride.specs.Happenings.{Happening, Record, Change}
+use Rattle.sdm_ride.specs.Happenings.{Happening, Record}
 use Rattle.sdm_onboard.specs.declared.messages.Message.{Message}
 use Rattle.sdm_onboard.specs.declared.messages.Message.TheVariants as messages
 use Rattle.sdm_onboard.specs.declared.onboard.Onboard.{Onboard}

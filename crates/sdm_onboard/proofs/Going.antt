@@ -1,6 +1,6 @@
 -- How a computer goes on with each kind of happening, over plain computers and any judging: what its supervisor answered,
 -- and what came of its order.
-use Rattle.std.proofs.Common.{◌≡◌, ◌&&◌, ◌||◌, not, ℕ, Bool, true, false, Option, Some, None, refl, subst, sym}
+use Rattle.std.proofs.Common.{◌≡◌, ◌&&◌, ◌||◌, not, ℕ, Bool, true, false, Some, None, refl, subst, sym}
 use Rattle.std.proofs.Common.{ap, ◌∙◌}
 use Rattle.std.specs.Prelude.{Result, Ok, Err}
 use Rattle.std.proofs.lemmas.Option.{none-some, same_Some}
@@ -19,7 +19,7 @@ use Rattle.sdm_rules.specs.declared.restrictions.Restriction.{Restriction}
 use Rattle.sdm_rules.specs.declared.rows.Row.{Row}
 use Rattle.sdm_rules.specs.Records.{authority_fault, restrict_fault, revoke_fault, step, time_cause, time_fault, unless}
 use Rattle.sdm_rules.specs.Supervision.{Supervision, after_authority, after_reading, after_restriction}
-use Rattle.sdm_rules.specs.Supervision.{after_revocation, row_of}
+use Rattle.sdm_rules.specs.Supervision.{after_revocation}
 use Rattle.sdm_rules.specs.TakeOver.{change, take_over_fault, taken_over, unless_refused}
 use Rattle.sdm_ride.specs.Happenings.{Happening, Record, Unread, Overdue, Change}
 use Rattle.sdm_ride.specs.Moments.{Judging, is_ordered, is_release}

@@ -3,3 +3,4 @@ pub mod Taking
 pub mod Runs
 pub mod Remembering
 pub mod Brakes
+pub mod MessageCases

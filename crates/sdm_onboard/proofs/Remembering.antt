@@ -1,6 +1,6 @@
 -- What is missing after each kind of message, as the clause of a computer that takes it says.
 use Rattle.std.proofs.Common.{◌≡◌, ◌⊎◌, ◌∙◌, ap, refl, false, Some, None, inl, inr, subst, sym}
-use Rattle.std.specs.Prelude.{IsTrue, Result, Ok, Err, is_some}
+use Rattle.std.specs.Prelude.{IsTrue, Result, Ok, is_some}
 use Rattle.sdm_rules.specs.declared.authorities.Authority.{Authority}
 use Rattle.sdm_rules.specs.declared.faults.AuthorityFault.{AuthorityFault}
 use Rattle.sdm_rules.specs.declared.restrictions.Restriction.{Restriction}

@@ -1,10 +1,10 @@
 -- A computer over messages and ticks goes on as a ride does: its clause says so of a message, and a tick changes
 -- nothing.
-use Rattle.std.proofs.Common.{◌≡◌, ◌⊎◌, ℕ, true, List, [], ◌∷◌, refl, subst, sym, inl, inr}
-use Rattle.std.specs.Prelude.{All, map, None, suc}
+use Rattle.std.proofs.Common.{ℕ, List, [], ◌∷◌, refl, subst, sym, inl, inr}
+use Rattle.std.specs.Prelude.{All, map, suc}
 use Rattle.std.proofs.Common.{arith}
 use Rattle.std.proofs.lemmas.List.Elements.{All-nil, All-cons}
-use Rattle.sdm_ride.specs.Happenings.{Happening, Overdue, Tick}
+use Rattle.sdm_ride.specs.Happenings.{Happening, Tick}
 use Rattle.sdm_ride.specs.Moments.{Judging, by_rows}
 use Rattle.sdm_ride.specs.Orders.{AllGoOn, Computer, GoesOn}
 use Rattle.sdm_ride.specs.RideLaws.{EndsBy}

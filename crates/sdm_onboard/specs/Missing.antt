@@ -1,8 +1,7 @@
 -- What a computer holds to whatever comes: the brakes against the traction, and the emergency brake while something that
 -- was refused is missing in its supervisor (own).
-use Rattle.std.specs.Prelude.{◌≡◌, ◌⊎◌, Bool, false, IsTrue, Option, Some, None, Result, Ok, Err, is_some, All, ⊤, List, [], ◌∷◌}
+use Rattle.std.specs.Prelude.{◌≡◌, ◌⊎◌, Bool, IsTrue, None, Result, Ok, Err, is_some, ⊤}
 use Rattle.sdm_rules.specs.declared.authorities.Authority.{Authority}
-use Rattle.sdm_rules.specs.declared.records.Event.TheVariants as record_kinds
 use Rattle.sdm_rules.specs.declared.restrictions.Restriction.{Restriction}
 use Rattle.sdm_rules.specs.Records.{authority_fault, restrict_fault}
 use Rattle.sdm_rules.specs.Supervision.{Supervision}
