@@ -30,7 +30,7 @@ mod TrialCases
 pub mod RideTrain
 pub mod TickTests
 pub mod RideSteps
-mod RideLine
+pub mod RideLine
 mod RideBeginning
 mod RideCases
 mod ChangedCases
@@ -41,7 +41,7 @@ mod RideOrderCases
 mod PartLawCases
 pub mod ComputerSteps
 mod ComputerRideCases
-mod ReleaseRideCases
+pub mod ReleaseRideCases
 mod ReleaseChangeCases
 mod ReleasePremiseCases
 mod ReleaseScaleCases

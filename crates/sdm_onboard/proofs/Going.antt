@@ -19,12 +19,14 @@ use Rattle.sdm_rules.specs.declared.restrictions.Restriction.{Restriction}
 use Rattle.sdm_rules.specs.declared.rows.Row.{Row}
 use Rattle.sdm_rules.specs.Records.{authority_fault, restrict_fault, revoke_fault, step, time_cause, time_fault, unless}
 use Rattle.sdm_rules.specs.Supervision.{Supervision, after_authority, after_reading, after_restriction}
-use Rattle.sdm_rules.specs.Supervision.{after_revocation}
+use Rattle.sdm_rules.specs.Supervision.{after_revocation, row_of}
 use Rattle.sdm_rules.specs.TakeOver.{change, take_over_fault, taken_over, unless_refused}
 use Rattle.sdm_ride.specs.Happenings.{Happening, Record, Unread, Overdue, Change}
-use Rattle.sdm_ride.specs.Moments.{Judging, is_ordered, is_release}
+use Rattle.sdm_ride.specs.Moments.{Judging, is_release}
 use Rattle.sdm_ride.specs.Orders.{Computer, GoesOn, changed_or, reading_if, taken_or}
+use Rattle.sdm_release_ride.specs.TripPlaces.{by_guarded, has_trip_place, is_within_bounds}
 use Rattle.sdm_service_ride.specs.ServiceMoments.{commands_brake}
+use Rattle.sdm_onboard.specs.Guard.{bounds, is_bounded, is_guarded_order}
 
 -- a record in which no reading is judged, where it takes no order away
 pub recorded : (j : Judging) (before now : Computer) (e : Event) (t : Result Supervision EventCause) →
@@ -58,11 +60,32 @@ judged j before now r in_time taken orders =
       stands = λ none _. absurd (none-some r (sym none ∙ ap (reading_if e) is));
     }
 
--- the order of the emergency brake after the row of a reading is that of the ride
-pub row_orders : (row row' : Row) (unsupervised emergency : Bool) →
-    emergency ≡ (is_ordered row || unsupervised) → row ≡ row' → is_ordered row' ≡ true → emergency ≡ true
-row_orders row row' unsupervised emergency is same orders =
-    is ∙ ap (λ b. b || unsupervised) (ap is_ordered same ∙ orders)
+-- guarded, the brake is ordered after a reading just where the computer orders it
+guarded_in : (eb covered release within trip : Bool) →
+    ((eb || (not covered && not release)) || not (covered || (((release && not eb) && within) && trip)))
+    ≡ (eb || (not covered && not (release && (within && trip))))
+guarded_in true covered release within trip = refl
+guarded_in false true release within trip = refl
+guarded_in false false false within trip = refl
+guarded_in false false true false trip = refl
+guarded_in false false true true trip = refl
+
+-- the order of the emergency brake after the row of a reading is that of the guarded ride
+pub row_orders : (s now : Supervision) (r : OdometerReading) (row : Row) (relied unsupervised emergency : Bool) →
+    now ≡ after_reading s r → relied ≡ (is_release row.state && is_bounded now r) →
+    emergency ≡ (is_guarded_order row relied || unsupervised) → row ≡ row_of s r →
+    (by_guarded bounds).orders s r ≡ true → emergency ≡ true
+unfolding after_reading
+row_orders s now r row relied unsupervised emergency taken is orders same asked =
+    let d = s.train_and_track in
+    let told = row_of s r in
+    let relied_is : relied ≡ (is_release told.state && is_bounded s r) =
+    is ∙ ap (λ (t : Supervision). is_release row.state && is_bounded t r) taken
+    ∙ ap (λ (x : Row). is_release x.state && is_bounded s r) same in
+    orders ∙ ap (λ b. b || unsupervised) (ap (λ (x : Row). is_guarded_order x relied) same
+    ∙ ap (is_guarded_order told) relied_is
+    ∙ sym (guarded_in told.held.eb told.covered (is_release told.state) (is_within_bounds bounds d r)
+    (has_trip_place bounds d s.authority)) ∙ asked)
 
 -- so is that of the service brake
 either_brake : (sb eb more unsupervised : Bool) → (sb || eb) ≡ true → (sb || ((eb || more) || unsupervised)) ≡ true
@@ -70,12 +93,12 @@ either_brake true eb more unsupervised e = refl
 either_brake false true more unsupervised e = refl
 either_brake false false more unsupervised e = absurd cc
 
-pub row_serves : (row row' : Row) (unsupervised emergency service : Bool) →
-    emergency ≡ (is_ordered row || unsupervised) → service ≡ (row.held.sb || emergency) → row ≡ row' →
+pub row_serves : (row row' : Row) (relied unsupervised emergency service : Bool) →
+    emergency ≡ (is_guarded_order row relied || unsupervised) → service ≡ (row.held.sb || emergency) → row ≡ row' →
     commands_brake row' ≡ true → service ≡ true
-row_serves row row' unsupervised emergency service is serves same brakes =
+row_serves row row' relied unsupervised emergency service is serves same brakes =
     serves ∙ ap (λ b. row.held.sb || b) is
-    ∙ either_brake row.held.sb row.held.eb (not row.covered && not (is_release row.state)) unsupervised
+    ∙ either_brake row.held.sb row.held.eb (not row.covered && not relied) unsupervised
     (ap commands_brake same ∙ brakes)
 
 -- a reading whose time goes back

@@ -2,9 +2,9 @@
 -- is past the SBI of the EOA and before the EBI of the SvL, so it takes the emergency brake away and leaves the service
 -- brake; from the first missing reading on it orders the emergency brake. The service brake does nothing here: a train
 -- whose emergency brake were that one would have to brake sooner.
-use Rattle.std.proofs.Common.{◌≡◌, ℕ, pos, Bool, true, false, List, [], ◌∷◌, refl, subst, ap, ◌∙◌}
+use Rattle.std.proofs.Common.{◌≡◌, ℕ, pos, Bool, true, false, List, [], ◌∷◌, refl, subst, sym, ap, ◌∙◌}
 use Rattle.std.proofs.Common.{◌⊎◌, inl, inr, ◌≤ℤ◌, arith}
-use Rattle.std.specs.Prelude.{All, IsTrue, Some, None, map}
+use Rattle.std.specs.Prelude.{All, IsTrue, Some, None, map, not, ◌&&◌, ◌||◌}
 use Rattle.std.proofs.lemmas.Bool.{false≢true}
 use Rattle.std.proofs.lemmas.Int.{ints}
 use Rattle.std.proofs.lemmas.List.Elements.{All-nil, All-cons}
@@ -23,33 +23,40 @@ use Rattle.sdm_rules.specs.Limits.{limits_of, release_start}
 use Rattle.sdm_rules.specs.Motion.{IsBy}
 use Rattle.sdm_rules.specs.Profile.{mrsp}
 use Rattle.sdm_rules.specs.Reaction.{reaction_times}
+use Rattle.sdm_rules.specs.Records.{step}
 use Rattle.sdm_rules.specs.Supervision.{Supervision, after_reading, commands_in, is_covered_in, opening, row_in, row_of}
 use Rattle.sdm_rules.specs.Supervision.{state_in}
 use Rattle.sdm_rules.specs.Targets.{targets_of}
 use Rattle.sdm_rules.specs.Triggers.{triggers_of}
 use Rattle.sdm_ride.specs.ComputerRides.{IsRideBeside, moments_beside}
 use Rattle.sdm_ride.specs.Happenings.{Happening, Record, Unread, Overdue, Change, Tick}
-use Rattle.sdm_ride.specs.Moments.{Moment, Promise, after, by_rows, moments}
+use Rattle.sdm_ride.specs.Moments.{Judging, Moment, Promise, after, by_rows, moments}
 use Rattle.sdm_ride.specs.MotionRides.{last_moment}
-use Rattle.sdm_ride.specs.Orders.{GoesOn, OrdersAs}
+use Rattle.sdm_ride.specs.Orders.{GoesOn, OrdersAs, judged_in}
 use Rattle.sdm_ride.specs.Rides.{HoldsDelays, IsByTimelyOrders, IsTrueReading, point_of}
 use Rattle.sdm_ride.specs.RideLaws.{EndsBy, IsAsCovered, IsNeverPast, IsRideStart, KeepsPromise}
+use Rattle.sdm_release_ride.specs.ReleaseRideLaws.{StopsBefore}
+use Rattle.sdm_laws.specs.TripPlaces.{has_trip_place}
+use Rattle.sdm_release_ride.specs.TripPlaces.{by_guarded, is_untripped, is_within_bounds}
 use Rattle.sdm_service_ride.specs.ServiceMoments.{Allowance, by_eoa}
 use Rattle.sdm_cases.proofs.ComputerSteps.{all_go_on, holds, moments_are, overdue_goes_on, rides_beside}
 use Rattle.sdm_cases.proofs.Journeys.{plain_band, plain_national, plain_train_and_track}
 use Rattle.sdm_cases.proofs.Openings.{opening_situation, situation_with}
+use Rattle.sdm_cases.proofs.ReleaseRideCases as release
 use Rattle.sdm_cases.proofs.RideLawCases.{braking, delays, gaining, to_the_end}
 use Rattle.sdm_cases.proofs.RideSteps.{IsGiven, at_the_end, ends_so, is_quiet, may_go, never_past, promised, to_given}
 use Rattle.sdm_cases.proofs.TickTests.{aged_by, begins, by_orders, orders_show, stands}
+use Rattle.sdm_cases.proofs.RideLine.{ride_line}
 use Rattle.sdm_cases.proofs.RideTrain.{ride_train, train_open, train_slopes}
 use Rattle.sdm_cases.proofs.StopCases.{plain_slopes}
 use Rattle.sdm_onboard.specs.declared.messages.Message.TheVariants as messages
 use Rattle.sdm_onboard.specs.declared.messages.Odometry.{Odometry}
 use Rattle.sdm_onboard.specs.declared.onboard.Onboard.{Onboard}
-use Rattle.sdm_onboard.specs.Messages.{IsFor, computer_of, reading_in, service_of}
+use Rattle.sdm_onboard.specs.Guard.{bounds}
+use Rattle.sdm_onboard.specs.Messages.{Follows, IsFor, computer_of, reading_in, service_of}
 use Rattle.sdm_onboard.specs.Missing.{HoldsBrakes}
 use Rattle.sdm_onboard.specs.Runs.{IsOver, IsRun, LawOfBrakes, LawOfMessagePlaces, LawOfMessageRides, LawOfMessages}
-use Rattle.sdm_onboard.specs.Runs.{LawOfServiceMessages}
+use Rattle.sdm_onboard.specs.Runs.{LawOfGuardedMessages, LawOfServiceMessages}
 
 -- ---- the train and its reading
 
@@ -108,6 +115,14 @@ given = record {
   is_open = train_open (pos 100) to_the_end (pos 3) (pos 5) (pos 0) authority;
   is_first = refl;
   promises = is_covered;
+  orders = rw (is_free, is_covered) refl;
+}
+
+guarded : IsGiven (by_guarded bounds) before reading
+guarded = record {
+  is_open = given.is_open;
+  is_first = refl;
+  promises = rw (is_covered) refl;
   orders = rw (is_free, is_covered) refl;
 }
 
@@ -186,7 +201,7 @@ over_overdue o t b = inl (
   messages.Overdue,
   record {
     is_for = refl;
-    follows = record { emergency = overdue_goes_on by_rows t b; service = overdue_goes_on by_eoa t true };
+    follows = record { emergency = overdue_goes_on (by_guarded bounds) t b; service = overdue_goes_on by_eoa t true };
   },
   record { authority = refl; restriction = tt; stays = λ e. e; holds = λ h. holds_brakes o t true },
 )
@@ -200,9 +215,10 @@ runs_on o t (Overdue ∷ hs) b quiet = (over_overdue o t b, runs_on o t hs true 
 runs_on o t (Change next ∷ hs) b quiet = absurd (false≢true quiet)
 runs_on o t (Tick to length ∷ hs) b quiet = (over_tick o t b to length, runs_on o t hs b quiet)
 
-emergency_goes_on : GoesOn by_rows (holds before true) (Record (record_kinds.Read reading))
+emergency_goes_on : GoesOn (by_guarded bounds) (holds before true) (Record (record_kinds.Read reading))
     (holds (after_reading before reading) false)
-emergency_goes_on = (all_go_on by_rows (by_orders delays 2) before reading (pos 51_840_000_000_000) 21_600 [] given refl).0
+emergency_goes_on =
+    (all_go_on (by_guarded bounds) (by_orders delays 2) before reading (pos 51_840_000_000_000) 21_600 [] guarded refl).0
 
 over_reading : (o : Onboard) → IsOver (orders o before true) (Record (record_kinds.Read reading))
     (orders o (after_reading before reading) false)
@@ -232,68 +248,87 @@ over_reading o = inl (
 is_run : (o : Onboard) → IsRun (orders o before true) happenings (computers o)
 is_run o = (over_reading o, runs_on o (after_reading before reading) what_follows false refl)
 
--- beside which the train rides
-rides_beside_it : (o : Onboard) →
-    IsRideBeside by_rows (IsByTimelyOrders delays 2) 2 start happenings (map computer_of (computers o))
-rides_beside_it o =
-    rides_beside by_rows (IsByTimelyOrders delays 2) 2 (by_orders delays 2) before reading (pos 51_840_000_000_000) 21_600
-    (Some 3) what_follows given is_true
-    (orders_show delays 2 its_promise (train_slopes (pos 100) to_the_end (pos 3) (pos 5) (pos 0) Safe) held) may_stop
+-- beside which the train rides, and its last moment, judged by the rows or guarded
+module _ (j : Judging) (gives : IsGiven j before reading) (o : Onboard) where
+  rides_beside_it : IsRideBeside j (IsByTimelyOrders delays 2) 2 start happenings (map computer_of (computers o))
+  rides_beside_it =
+      rides_beside j (IsByTimelyOrders delays 2) 2 (by_orders delays 2) before reading (pos 51_840_000_000_000) 21_600
+      (Some 3) what_follows gives is_true
+      (orders_show delays 2 its_promise (train_slopes (pos 100) to_the_end (pos 3) (pos 5) (pos 0) Safe) held) may_stop
 
-same_moments : (o : Onboard) → moments_beside by_rows start happenings (map computer_of (computers o))
-    ≡ moments by_rows start happenings
-same_moments o =
-    moments_are by_rows (by_orders delays 2) before reading (pos 51_840_000_000_000) 21_600 (Some 3) what_follows given
-    may_stop
+  same_moments : moments_beside j start happenings (map computer_of (computers o)) ≡ moments j start happenings
+  same_moments =
+      moments_are j (by_orders delays 2) before reading (pos 51_840_000_000_000) 21_600 (Some 3) what_follows gives may_stop
 
-ends : last_moment by_rows start happenings ≡ where_it_stands
-unfolding after
-ends = ends_so by_rows before reading (pos 51_840_000_000_000) 21_600 (Some 3) what_follows given ∙ refl
+  ends : last_moment j start happenings ≡ where_it_stands
+  unfolding after
+  ends = ends_so j before reading (pos 51_840_000_000_000) 21_600 (Some 3) what_follows gives ∙ refl
+
+  -- it stands at or before 31 m, where it is never past that place
+  stands_before : IsNeverPast 2 3100 (moments_beside j start happenings (map computer_of (computers o))) →
+      where_it_stands.place ≤ℤ pos 66_960_000_000_000
+  stands_before never =
+      let first = ap (λ (n : Moment). n.promise)
+      (to_given j before reading (pos 51_840_000_000_000) 21_600 (Some 3) gives) in
+      let by = subst (λ (n : Moment). IsBy 2 (place_of_cell (pos 3100)) (point_of n)) ends
+      (never_past j 2 3100 start (Record (record_kinds.Read reading)) what_follows its_promise first
+      (subst (λ (ms : List Moment). IsNeverPast 2 3100 ms) same_moments never)) in
+      omega (arith, ints, by)
 
 -- its authority ends at 3100 cm
 ends_by : EndsBy 3100 (after_reading before reading).authority
 unfolding after_reading
 ends_by = (omega arith, refl)
 
-all_end : (o : Onboard) (t : Supervision) (hs : List Happening) (b : Bool) → EndsBy 3100 t.authority →
-    All (λ p. EndsBy 3100 p.supervisor.authority) (along o t b hs)
-all_end o t [] b is = All-nil (λ (p : Onboard). EndsBy 3100 p.supervisor.authority)
-all_end o t (Record e ∷ hs) b is = All-nil (λ (p : Onboard). EndsBy 3100 p.supervisor.authority)
-all_end o t (Unread ∷ hs) b is = All-nil (λ (p : Onboard). EndsBy 3100 p.supervisor.authority)
-all_end o t (Overdue ∷ hs) b is =
-    All-cons (λ (p : Onboard). EndsBy 3100 p.supervisor.authority) (orders o t true) (along o t true hs) is
-    (all_end o t hs true is)
-all_end o t (Change next ∷ hs) b is = All-nil (λ (p : Onboard). EndsBy 3100 p.supervisor.authority)
-all_end o t (Tick to length ∷ hs) b is =
-    All-cons (λ (p : Onboard). EndsBy 3100 p.supervisor.authority) (orders o t b) (along o t b hs) is (all_end o t hs b is)
+stops_before : StopsBefore 3100 (after_reading before reading).authority
+unfolding after_reading
+stops_before = omega arith
+
+-- what is true of the authority is true of that of each computer
+module _ (P : Authority → Type 0) (o : Onboard) where
+  all_stay : (t : Supervision) (hs : List Happening) (b : Bool) → P t.authority →
+      All (λ p. P p.supervisor.authority) (along o t b hs)
+  all_stay t [] b is = All-nil (λ (p : Onboard). P p.supervisor.authority)
+  all_stay t (Record e ∷ hs) b is = All-nil (λ (p : Onboard). P p.supervisor.authority)
+  all_stay t (Unread ∷ hs) b is = All-nil (λ (p : Onboard). P p.supervisor.authority)
+  all_stay t (Overdue ∷ hs) b is =
+      All-cons (λ (p : Onboard). P p.supervisor.authority) (orders o t true) (along o t true hs) is (all_stay t hs true is)
+  all_stay t (Change next ∷ hs) b is = All-nil (λ (p : Onboard). P p.supervisor.authority)
+  all_stay t (Tick to length ∷ hs) b is =
+      All-cons (λ (p : Onboard). P p.supervisor.authority) (orders o t b) (along o t b hs) is (all_stay t hs b is)
+
+  all_have : P before.authority → P (after_reading before reading).authority →
+      All (λ p. P p.supervisor.authority) (orders o before true ∷ computers o)
+  all_have first is =
+      let next = after_reading before reading in
+      let Q = λ (p : Onboard). P p.supervisor.authority in
+      All-cons Q (orders o before true) (computers o) first
+      (All-cons Q (orders o next false) (along o next false what_follows) is (all_stay next what_follows false is))
 
 -- ---- what the laws say of it
 
 -- FROM MESSAGES TO THE PLACE: the train stands at or before 31 m
 never_past_by_law : LawOfMessagePlaces → Onboard → where_it_stands.place ≤ℤ pos 66_960_000_000_000
 never_past_by_law law o =
-    let next = after_reading before reading in
-    let P = λ (p : Onboard). EndsBy 3100 p.supervisor.authority in
-    let all = law delays 2 3100 start (orders o before true) happenings (computers o) (omega arith) is_start refl
-    (is_run o) (rides_beside_it o)
-    (All-cons P (orders o before true) (computers o) (omega arith, refl)
-    (All-cons P (orders o next false) (along o next false what_follows) ends_by
-    (all_end o next what_follows false ends_by))) in
-    let first = ap (λ (n : Moment). n.promise)
-    (to_given by_rows before reading (pos 51_840_000_000_000) 21_600 (Some 3) given) in
-    let by = subst (λ (n : Moment). IsBy 2 (place_of_cell (pos 3100)) (point_of n)) ends
-    (never_past by_rows 2 3100 start (Record (record_kinds.Read reading)) what_follows its_promise first
-    (subst (λ (ms : List Moment). IsNeverPast 2 3100 ms) (same_moments o) all)) in
-    omega (arith, ints, by)
+    stands_before by_rows given o
+    (law delays 2 3100 start (orders o before true) happenings (computers o) (omega arith) is_start refl (is_run o)
+    (rides_beside_it by_rows given o) (all_have (EndsBy 3100) o (omega arith, refl) ends_by))
+
+-- GUARDED: so it does
+guarded_by_law : LawOfGuardedMessages → Onboard → where_it_stands.place ≤ℤ pos 66_960_000_000_000
+guarded_by_law law o =
+    stands_before (by_guarded bounds) guarded o
+    (law delays 2 3100 start (orders o before true) happenings (computers o) (omega arith) is_start refl (is_run o)
+    (rides_beside_it (by_guarded bounds) guarded o) (all_have (StopsBefore 3100) o (omega arith) stops_before))
 
 -- THE RIDE OF THE COMPUTER: so it is promised
 kept_by_law : LawOfMessageRides → Onboard → where_it_stands.place ≤ℤ pos 66_960_000_000_000
 kept_by_law law o =
     let P = KeepsPromise IsAsCovered 2 in
     let all = law delays 2 start (orders o before true) happenings (computers o) (omega arith) is_start refl (is_run o)
-    (rides_beside_it o) in
-    let kept = subst P ends (at_the_end by_rows P start (Record (record_kinds.Read reading)) what_follows
-    (subst (λ (ms : List Moment). All P ms) (same_moments o) all)) (aged_by its_promise 22) refl in
+    (rides_beside_it by_rows given o) in
+    let kept = subst P (ends by_rows given o) (at_the_end by_rows P start (Record (record_kinds.Read reading)) what_follows
+    (subst (λ (ms : List Moment). All P ms) (same_moments by_rows given o) all)) (aged_by its_promise 22) refl in
     let by = kept.stops 2000 3100 0 refl in
     omega (arith, ints, by)
 
@@ -344,3 +379,45 @@ unauthorised_by_law : LawOfBrakes → (o p q : Onboard) → HoldsBrakes o → o.
 unauthorised_by_law law o p q holds missing first second =
     law.authority o (Record (record_kinds.Read reading) ∷ Record (record_kinds.Read reading) ∷ []) (p ∷ q ∷ []) holds
     missing (first, (second, tt)) ((λ new. new), ((λ new. new), tt)) 1 q (omega arith)
+
+-- ---- the guard: a reading of the train of `ReleaseRideCases` finds it untripped in release speed monitoring. Its row
+-- orders nothing, and the guard orders the brake, since 10 m past the EOA lies past the SvL
+
+uncovered : (row_of release.before release.first).covered ≡ false
+unfolding ride_line plain_train_and_track plain_national plain_band release.first row_in situation_with targets_of mrsp
+    is_covered_in limits_of release_start reaction_times slopes_of slope_at stepped place_at corner arc arc_back back
+uncovered =
+    ap (λ now. is_covered_in release.line release.first now) (opening_situation release.line release.ending release.first)
+    ∙ refl
+
+unplaced : has_trip_place bounds release.line release.ending ≡ false
+unplaced = refl
+
+unpromised : (ordered covered untripped within trip : Bool) → covered ≡ false → trip ≡ false →
+    (ordered || not (covered || ((untripped && within) && trip))) ≡ true
+unpromised true covered untripped within trip none lacks = refl
+unpromised false true untripped within trip none lacks = absurd (false≢true (sym none))
+unpromised false false true true trip none lacks = rw lacks refl
+unpromised false false true false trip none lacks = refl
+unpromised false false false within trip none lacks = refl
+
+free_by_its_row : by_rows.orders release.before release.first ≡ false
+free_by_its_row = release.first_free
+
+ordered_by_guard : (by_guarded bounds).orders release.before release.first ≡ true
+ordered_by_guard =
+    unpromised _ _ (is_untripped (row_of release.before release.first))
+    (is_within_bounds bounds release.line release.first) _ uncovered unplaced
+
+first_judged : judged_in release.before (Record (record_kinds.Read release.first)) ≡ Some release.first
+unfolding step release.first
+first_judged = refl
+
+-- so a computer that follows the guarded ride brakes
+braked_by_guard : (o p : Onboard) → o.supervisor ≡ release.before →
+    Follows o (Record (record_kinds.Read release.first)) p → p.orders.emergency ≡ true
+braked_by_guard o p is follows =
+    follows.emergency.judged release.first
+    (subst (λ (s : Supervision). judged_in s (Record (record_kinds.Read release.first)) ≡ Some release.first) (sym is)
+    first_judged)
+    (subst (λ (s : Supervision). (by_guarded bounds).orders s release.first ≡ true) (sym is) ordered_by_guard)

@@ -16,13 +16,14 @@ use Rattle.sdm_rules.specs.Records.{authority_fault, restrict_fault, revoke_faul
 use Rattle.sdm_rules.specs.Supervision.{Supervision, after_authority, after_restriction, after_revocation}
 use Rattle.sdm_rules.specs.TakeOver.{take_over_fault, taken_over}
 use Rattle.sdm_ride.specs.Happenings.{Happening, Record, Unread, Overdue, Change}
-use Rattle.sdm_ride.specs.Moments.{by_rows}
+use Rattle.sdm_release_ride.specs.TripPlaces.{by_guarded}
 use Rattle.sdm_service_ride.specs.ServiceMoments.{by_eoa}
 use Rattle.sdm_onboard.specs.declared.messages.Message.{Message}
 use Rattle.sdm_onboard.specs.declared.messages.Message.TheVariants as messages
 use Rattle.sdm_onboard.specs.declared.messages.Odometry.{Odometry}
 use Rattle.sdm_onboard.specs.declared.onboard.Onboard.{Onboard}
 use Rattle.sdm_onboard.specs.declared.opening.OpeningFault.{OpeningFault}
+use Rattle.sdm_onboard.specs.Guard.{bounds}
 use Rattle.sdm_onboard.specs.Messages.{Changes, Follows, HasSpeed, IsOpenedFor, IsRepeated, Takes, computer_of}
 use Rattle.sdm_onboard.specs.Messages.{reading_in, service_of}
 use Rattle.sdm_onboard.specs.Missing.{IsBraked}
@@ -51,7 +52,7 @@ follows_unread : (before now : Onboard) → now.supervisor ≡ before.supervisor
     (before.orders.emergency ≡ true → now.orders.emergency ≡ true) →
     (before.orders.service ≡ true → now.orders.service ≡ true) → Follows before Unread now
 follows_unread before now same stands serves = record {
-  emergency = going.unread by_rows (computer_of before) (computer_of now) same stands;
+  emergency = going.unread (by_guarded bounds) (computer_of before) (computer_of now) same stands;
   service = going.unread by_eoa (service_of before) (service_of now) same serves;
 }
 
@@ -67,7 +68,7 @@ unread before now o not same stands serves =
 follows_overdue : (before now : Onboard) → now.supervisor ≡ before.supervisor → IsBraked now.orders →
     Follows before Overdue now
 follows_overdue before now same braked = record {
-  emergency = going.overdue by_rows (computer_of before) (computer_of now) same braked.emergency;
+  emergency = going.overdue (by_guarded bounds) (computer_of before) (computer_of now) same braked.emergency;
   service = going.overdue by_eoa (service_of before) (service_of now) same braked.service;
 }
 
@@ -93,7 +94,7 @@ authority before now a none taken same = (
   record {
     is_for = refl;
     follows = record {
-      emergency = going.authority by_rows (computer_of before) (computer_of now) a none taken
+      emergency = going.authority (by_guarded bounds) (computer_of before) (computer_of now) a none taken
           (λ stood. ap (λ o. o.emergency) same ∙ stood);
       service = going.authority by_eoa (service_of before) (service_of now) a none taken
           (λ stood. ap (λ o. o.service) same ∙ stood);
@@ -111,7 +112,7 @@ refused_authority before now a fault is same braked served = (
   record {
     is_for = refl;
     follows = record {
-      emergency = going.refused_authority by_rows (computer_of before) (computer_of now) a fault is same (λ _. braked);
+      emergency = going.refused_authority (by_guarded bounds) (computer_of before) (computer_of now) a fault is same (λ _. braked);
       service = going.refused_authority by_eoa (service_of before) (service_of now) a fault is same (λ _. served);
     };
   },
@@ -134,7 +135,7 @@ asked_restriction before now r (Ok u) speed accepted taken refused unchanged sam
   record {
     is_for = inl (speed, refl);
     follows = record {
-      emergency = going.restriction by_rows (computer_of before) (computer_of now) r accepted taken
+      emergency = going.restriction (by_guarded bounds) (computer_of before) (computer_of now) r accepted taken
           (λ stood. ap (λ o. o.emergency) same ∙ stood);
       service = going.restriction by_eoa (service_of before) (service_of now) r accepted taken
           (λ stood. ap (λ o. o.service) same ∙ stood);
@@ -146,7 +147,7 @@ asked_restriction before now r (Err fault) speed accepted taken refused unchange
   record {
     is_for = inl (speed, refl);
     follows = record {
-      emergency = going.refused_restriction by_rows (computer_of before) (computer_of now) r fault refused unchanged
+      emergency = going.refused_restriction (by_guarded bounds) (computer_of before) (computer_of now) r fault refused unchanged
           (λ stood. ap (λ o. o.emergency) same ∙ stood);
       service = going.refused_restriction by_eoa (service_of before) (service_of now) r fault refused unchanged
           (λ stood. ap (λ o. o.service) same ∙ stood);
@@ -171,7 +172,7 @@ revocation before now id none taken same = (
   record {
     is_for = refl;
     follows = record {
-      emergency = going.revocation by_rows (computer_of before) (computer_of now) id none taken
+      emergency = going.revocation (by_guarded bounds) (computer_of before) (computer_of now) id none taken
           (λ stood. ap (λ o. o.emergency) same ∙ stood);
       service = going.revocation by_eoa (service_of before) (service_of now) id none taken
           (λ stood. ap (λ o. o.service) same ∙ stood);
@@ -188,7 +189,7 @@ refused_revocation before now id fault is same kept = (
   record {
     is_for = refl;
     follows = record {
-      emergency = going.refused_revocation by_rows (computer_of before) (computer_of now) id fault is same
+      emergency = going.refused_revocation (by_guarded bounds) (computer_of before) (computer_of now) id fault is same
           (λ stood. ap (λ o. o.emergency) kept ∙ stood);
       service = going.refused_revocation by_eoa (service_of before) (service_of now) id fault is same
           (λ stood. ap (λ o. o.service) kept ∙ stood);
@@ -212,7 +213,7 @@ taken_data before now opened next is_opened none taken same = (
   record {
     is_for = opened_for opened next is_opened;
     follows = record {
-      emergency = going.taken_data by_rows (computer_of before) (computer_of now) next none taken
+      emergency = going.taken_data (by_guarded bounds) (computer_of before) (computer_of now) next none taken
           (λ stood. ap (λ o. o.emergency) same ∙ stood);
       service = going.taken_data by_eoa (service_of before) (service_of now) next none taken
           (λ stood. ap (λ o. o.service) same ∙ stood);
@@ -231,7 +232,7 @@ refused_data before now opened next fault is_opened is same braked served = (
   record {
     is_for = opened_for opened next is_opened;
     follows = record {
-      emergency = going.refused_data by_rows (computer_of before) (computer_of now) next fault is same (λ _. braked);
+      emergency = going.refused_data (by_guarded bounds) (computer_of before) (computer_of now) next fault is same (λ _. braked);
       service = going.refused_data by_eoa (service_of before) (service_of now) next fault is same (λ _. served);
     };
   },
@@ -252,7 +253,7 @@ braked before now later message same is serves takes = (
   record {
     is_for = takes.1.is_for;
     follows = record {
-      emergency = going.braked by_rows (computer_of before) (computer_of now) (computer_of later) takes.0 same is
+      emergency = going.braked (by_guarded bounds) (computer_of before) (computer_of now) (computer_of later) takes.0 same is
           takes.1.follows.emergency;
       service = going.braked by_eoa (service_of before) (service_of now) (service_of later) takes.0 same serves
           takes.1.follows.service;

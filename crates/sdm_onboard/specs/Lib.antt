@@ -1,3 +1,4 @@
+pub mod Guard
 pub mod Messages
 pub mod Missing
 pub mod Runs

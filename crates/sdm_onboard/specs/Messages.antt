@@ -6,9 +6,10 @@ use Rattle.sdm_rules.specs.declared.records.Event.TheVariants as record_kinds
 use Rattle.sdm_rules.specs.declared.restrictions.Restriction.{Restriction}
 use Rattle.sdm_rules.specs.Supervision.{Supervision}
 use Rattle.sdm_ride.specs.Happenings.{Happening, Record, Unread, Overdue, Change}
-use Rattle.sdm_ride.specs.Moments.{by_rows}
 use Rattle.sdm_ride.specs.Orders.{Computer, GoesOn}
+use Rattle.sdm_release_ride.specs.TripPlaces.{by_guarded}
 use Rattle.sdm_service_ride.specs.ServiceMoments.{by_eoa}
+use Rattle.sdm_onboard.specs.Guard.{bounds}
 use Rattle.sdm_onboard.specs.declared.messages.Message.{Message}
 use Rattle.sdm_onboard.specs.declared.messages.Message.TheVariants as messages
 use Rattle.sdm_onboard.specs.declared.messages.Odometry.{Odometry}
@@ -54,10 +55,10 @@ computer_of o = record { supervision = o.supervisor; orders_brake = o.orders.eme
 abbrev pub service_of : Onboard → Computer
 service_of o = record { supervision = o.supervisor; orders_brake = o.orders.service }
 
--- over a happening the computer goes on as the ride does: with the emergency brake as one that is judged by the rows,
--- with the service brake as one that is judged by the EOA (own)
+-- over a happening the computer goes on as the ride does: with the emergency brake as one that is judged by the rows and
+-- guarded, with the service brake as one that is judged by the EOA (own)
 pub record Follows (before : Onboard) (h : Happening) (now : Onboard) : Type 0 where
-  pub emergency : GoesOn by_rows (computer_of before) h (computer_of now)
+  pub emergency : GoesOn (by_guarded bounds) (computer_of before) h (computer_of now)
   pub service : GoesOn by_eoa (service_of before) h (service_of now)
 
 -- so it does with a message (own)

@@ -10,11 +10,14 @@ use Rattle.sdm_ride.specs.Rides.{Delays, IsByTimelyOrders}
 use Rattle.sdm_ride.specs.RideLaws.{EndsBy, IsAsCovered, IsNeverPast, IsRideStart, KeepsPromise}
 use Rattle.sdm_ride.specs.Orders.{AllOrderAs, OrdersAs, judged_in}
 use Rattle.sdm_ride.specs.ComputerRides.{IsRideBeside, moments_beside}
+use Rattle.sdm_release_ride.specs.ReleaseRideLaws.{StopsBefore}
+use Rattle.sdm_release_ride.specs.TripPlaces.{by_guarded}
 use Rattle.sdm_service_ride.specs.ServiceMoments.{Allowance}
 use Rattle.sdm_service_ride.specs.ServiceOrders.{AllServeAs}
 use Rattle.sdm_onboard.specs.declared.messages.Message.{Message}
 use Rattle.sdm_onboard.specs.declared.onboard.Onboard.{Onboard}
 use Rattle.sdm_onboard.specs.declared.opening.OpeningFault.{OpeningFault}
+use Rattle.sdm_onboard.specs.Guard.{bounds}
 use Rattle.sdm_onboard.specs.Messages.{Changes, Takes, computer_of, service_of}
 use Rattle.sdm_onboard.specs.Missing.{HoldsBrakes, Remembers, RemembersOver, TakesAuthority}
 
@@ -72,6 +75,16 @@ LawOfMessagePlaces =
     IsRideBeside by_rows (IsByTimelyOrders w s) s m hs (map computer_of os) →
     All (λ p. EndsBy place p.supervisor.authority) (o ∷ os) →
     IsNeverPast s place (moments_beside by_rows m hs (map computer_of os))
+
+-- GUARDED: so it is where each authority is any stop that ends by the place, whatever its release speed, and the readings
+-- that give a promise are those that the guard relies on, too
+abbrev pub LawOfGuardedMessages : Type 0
+LawOfGuardedMessages =
+    (w : Delays) (s place : ℕ) (m : Moment) (o : Onboard) (hs : List Happening) (os : List Onboard) → 0 < s →
+    IsRideStart m → o.supervisor ≡ m.supervision → IsRun o hs os →
+    IsRideBeside (by_guarded bounds) (IsByTimelyOrders w s) s m hs (map computer_of os) →
+    All (λ p. StopsBefore place p.supervisor.authority) (o ∷ os) →
+    IsNeverPast s place (moments_beside (by_guarded bounds) m hs (map computer_of os))
 
 -- ---- the brakes
 

@@ -1,6 +1,6 @@
 //! What the computer owes the ride, over every list of its messages.
 
-ghost use Rattle.sdm_onboard.specs.Runs.{LawOfBrakes, LawOfMessagePlaces, LawOfMessageRides};
+ghost use Rattle.sdm_onboard.specs.Runs.{LawOfBrakes, LawOfGuardedMessages, LawOfMessagePlaces, LawOfMessageRides};
 ghost use Rattle.sdm_onboard.specs.Runs.{LawOfMessages, LawOfServiceMessages};
 
 /// The emergency brake stands at the interface wherever the ride counts an order of it: by the clause of
@@ -35,4 +35,11 @@ pub fn law_of_message_rides()
 #[tactic(auto, using(crate::proofs::Runs::message_places))]
 pub fn law_of_message_places()
     ensures { LawOfMessagePlaces }
+{}
+
+/// GUARDED: where each authority is any stop that ends by the place, whatever its release speed, the train never passes
+/// it, in release speed monitoring too.
+#[tactic(auto, using(crate::proofs::Runs::guarded_messages))]
+pub fn law_of_guarded_messages()
+    ensures { LawOfGuardedMessages }
 {}

@@ -4,6 +4,7 @@
 //! and the interfaces of the train are lines of text.
 #![tactic(auto)]
 
+mod guard;
 mod laws;
 mod messages;
 mod onboard;

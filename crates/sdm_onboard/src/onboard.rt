@@ -13,6 +13,7 @@ ghost use Rattle.std.specs.Prelude.{IfOk};
 ghost use Rattle.std.specs.FinMap as finite;
 ghost use Rattle.sdm_rules.specs.TakeOver.{taken_over};
 
+use crate::guard::is_relied_on;
 use crate::messages::{Message, Odometry};
 use crate::opening::OpeningFault;
 use crate::orders::Orders;
@@ -193,8 +194,9 @@ impl Onboard {
         ensures holds { HoldsBrakes self.old → HoldsBrakes self.new }
     {
         let row = self.supervisor.cycle(reading)?;
+        let is_relied_on = is_relied_on(&self.supervisor, &row, reading);
         let is_unsupervised = self.is_authority_missing || self.is_restriction_missing;
-        self.orders = Orders::of(&row, is_unsupervised);
+        self.orders = Orders::of(&row, is_relied_on, is_unsupervised);
         Ok(row)
     }
 

@@ -2,9 +2,9 @@
 //! besides wherever the row promises nothing that may be counted on: docs/INTEGRATION.md has the cases.
 
 ghost use Rattle.std.specs.Prelude.{◌≡◌, ◌⊎◌, ◌||◌, IsTrue};
-ghost use Rattle.sdm_ride.specs.Moments.{is_ordered};
+ghost use Rattle.sdm_onboard.specs.Guard.{is_guarded_order};
 
-use sdm_rules::{Row, State};
+use sdm_rules::Row;
 use std::fmt;
 
 /// What stands at the interfaces.
@@ -24,16 +24,16 @@ impl Orders {
     };
 
     /// What a row asks. `is_unsupervised` says that something which was handed in was refused, so that the supervisor
-    /// doesn't know of it. A row that isn't covered promises no stop, so the brake is commanded, but for release speed
-    /// monitoring, where none is promised.
-    pub fn of(row: &Row, is_unsupervised: bool) -> Orders
-        ensures emergency { result.emergency ≡ (is_ordered row.now || is_unsupervised) }
+    /// doesn't know of it. A row that isn't covered promises no stop, so the brake is commanded, but in release speed
+    /// monitoring after a reading that is relied on there.
+    pub fn of(row: &Row, is_relied_on: bool, is_unsupervised: bool) -> Orders
+        ensures emergency { result.emergency ≡ (is_guarded_order row.now is_relied_on || is_unsupervised) }
         ensures service { result.service ≡ (row.now.held.sb || result.emergency) }
         ensures cut_off { IsTrue row.now.held.tco → IsTrue result.traction_off }
         ensures no_traction_against_brakes { IsTrue result.emergency ⊎ IsTrue result.service
             → IsTrue result.traction_off }
     {
-        let is_uncovered = !row.covered && row.state != State::R;
+        let is_uncovered = !row.covered && !is_relied_on;
         if row.held.eb || is_uncovered || is_unsupervised {
             return Orders::BRAKE;
         }
