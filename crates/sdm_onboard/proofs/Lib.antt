@@ -4,3 +4,5 @@ pub mod Runs
 pub mod Remembering
 pub mod Brakes
 pub mod MessageCases
+pub mod LateReadings
+pub mod LateReadingCases

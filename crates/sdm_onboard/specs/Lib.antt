@@ -1,4 +1,5 @@
 pub mod Guard
+pub mod LateReadings
 pub mod Messages
 pub mod Missing
 pub mod Runs

@@ -1,5 +1,6 @@
 //! What the computer owes the ride, over every list of its messages.
 
+ghost use Rattle.sdm_onboard.specs.LateReadings.{LawOfLateReadings};
 ghost use Rattle.sdm_onboard.specs.Runs.{LawOfBrakes, LawOfGuardedMessages, LawOfMessagePlaces, LawOfMessageRides};
 ghost use Rattle.sdm_onboard.specs.Runs.{LawOfMessages, LawOfServiceMessages};
 
@@ -42,4 +43,10 @@ pub fn law_of_message_places()
 #[tactic(auto, using(crate::proofs::Runs::guarded_messages))]
 pub fn law_of_guarded_messages()
     ensures { LawOfGuardedMessages }
+{}
+
+/// A READING JUDGED LATE is one of the ride at the moment for which it holds: put back there, after all that the supervisor
+/// was handed in meanwhile, it is judged by what the supervisor holds, and the train and the supervisor end as they do.
+pub fn law_of_late_readings()
+    ensures { LawOfLateReadings }
 {}
