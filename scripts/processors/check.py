@@ -107,7 +107,11 @@ class Ways:
 
 SAMPLE = Ways(("aarch64", "wasm", "c"), 200, sample)
 ALL = Ways(tuple(build.WAYS), 2000, each_way)
-PLANTED = Ways(("wasm", "c"), 200, planted.jobs)
+
+
+def planted_ways(only: str) -> Ways:
+    """The mistakes that a text is of."""
+    return Ways(("wasm", "c"), 200, partial(planted.jobs, only=only))
 
 
 def seconds_of_children() -> float:
@@ -170,11 +174,12 @@ def main(words: list[str]) -> int:
     )
     parser.add_argument("--all", action="store_true", help="each way, as check processors-all has it")
     parser.add_argument("--planted", action="store_true", help="planted mistakes, each of which must be found")
+    parser.add_argument("--only", default="", metavar="TEXT", help="of these, those whose kind and name have a text")
     parser.add_argument("--dist", type=Path, metavar="FOLDER", help="what a release has in a folder")
     parser.add_argument("--jobs", type=int, default=1, metavar="N", help="so many ways at once")
     add_program(parser)
     given = parser.parse_args(words)
-    ways = PLANTED if given.planted else ALL if given.all else SAMPLE
+    ways = planted_ways(given.only) if given.planted else ALL if given.all else SAMPLE
     try:
         with tempfile.TemporaryDirectory() as name:
             found = played(built(given.program), given.dist, Path(name), ways, given.jobs)

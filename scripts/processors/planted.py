@@ -206,7 +206,8 @@ def sought(mistake: Mistake, folders: dict[str, Path], packed: Path, made: Path,
     return [Played(f"planted in {mistake.file}: {mistake.what}", told, bool(found))]
 
 
-def jobs(folders: dict[str, Path], packed: Path, made: Path, scratch: Path) -> Iterator[Job]:
-    """All mistakes, each as a job."""
+def jobs(folders: dict[str, Path], packed: Path, made: Path, scratch: Path, only: str = "") -> Iterator[Job]:
+    """All mistakes that a text is of, each as a job."""
     for count, mistake in enumerate(MISTAKES):
-        yield partial(sought, mistake, folders, packed, made, scratch / f"planted-{count}")
+        if only in f"{mistake.kind}: {mistake.what}":
+            yield partial(sought, mistake, folders, packed, made, scratch / f"planted-{count}")
