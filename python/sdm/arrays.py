@@ -78,8 +78,10 @@ def flat(value: Any) -> Iterator[Any]:
             yield from ("", "", np.nan, np.nan, np.nan)
         elif isinstance(held, Cause):
             yield from flat(held)
+        elif held is None:
+            yield np.nan
         else:
-            yield np.nan if held is None else held
+            yield whole(name, held) if int in (hint, *get_args(hint)) else held
 
 
 def is_frame(values: Any) -> bool:
@@ -91,8 +93,9 @@ def array_of(values: Any, *kinds: type[Item]) -> Array:
     """An array of values of one of some kinds: the array itself, or a copy of values or of a frame. KindError of
     others."""
     if isinstance(values, np.ndarray):
-        if values.ndim == 1 and any(values.dtype == TYPES[kind] for kind in kinds):
-            return values
+        for kind in kinds:
+            if values.ndim == 1 and values.dtype == TYPES[kind]:
+                return with_whole_numbers(kind, values)
     elif is_frame(values):
         for kind in kinds:
             if kind in (Row, Reading) and set(COLUMNS[kind]) <= set(values.columns):
@@ -136,8 +139,21 @@ def of_columns(kind: type[Item], columns: dict[str, Any]) -> Array:
     made = np.zeros(np.atleast_1d(next(iter(held.values()))).shape, TYPES[kind])
     for name, (of, may) in COLUMNS[kind].items():
         column = np.atleast_1d(held[name])
+        if of is bool and not np.isin(column, (0, 1)).all():
+            raise KindError(f"{name} has other values than True and False")
         made[name] = wholes(name, column) if of is int and not may else column
-    return made
+        if issubclass(of, Word) and not (np.isin(made[name], words(of)) & (made[name] == column)).all():
+            raise KindError(f"{name} has other words than {', '.join(of)}")
+    return with_whole_numbers(kind, made)
+
+
+def with_whole_numbers(kind: type[Item], array: Array) -> Array:
+    """An array, whose floats are whole or NaN. KindError where one is another number, which would be cut."""
+    for name, (_, may) in COLUMNS[kind].items():
+        if may and (parts := array[name] % 1 > 0).any():
+            first = int(parts.argmax())
+            raise KindError(f"{name} of row {first + 1} is {array[name][first]}; expected a whole number or none")
+    return array
 
 
 def wholes(name: str, column: npt.NDArray[Any]) -> Any:
@@ -145,7 +161,7 @@ def wholes(name: str, column: npt.NDArray[Any]) -> Any:
     try:
         if column.dtype.kind in "iu" and column.dtype != np.uint64:
             return column
-        return np.array([whole(f"{name} of reading {i}", each) for i, each in enumerate(column, 1)], np.int64)
+        return np.array([whole(f"{name} of row {i}", each) for i, each in enumerate(column, 1)], np.int64)
     except OverflowError:
         raise SdmError(Status.OUT_OF_RANGE, f"out of range: {name} has numbers beyond 64 bits") from None
 
@@ -156,22 +172,24 @@ def readings(frame: Any = None, /, **columns: Any) -> Array:
 
     KindError where a column holds other than whole numbers; FormError where one is missing, has another name or another
     length; SdmError, OUT_OF_RANGE, where a number is out of its range."""
-    if frame is not None and not is_frame(frame):
-        return array_of(frame, Reading).copy()
-    names = list(COLUMNS[Reading])
-    if frame is not None:
-        is_whole = set(names) <= set(frame.columns)
-        columns = {str(name): frame[name].to_numpy() for name in (names if is_whole else frame.columns)}
-    given = BY_DEFAULT | columns
-    if set(given) != set(names):
-        raise FormError(f"the columns are {', '.join(given)}; expected {', '.join(names)}")
-    try:
-        made = of_columns(Reading, given)
-    except ValueError as why:
-        raise FormError(f"the columns differ in length: {why}") from None
+    if frame is not None and is_frame(frame):
+        is_whole = set(READING.names or ()) <= set(frame.columns)
+        columns = {str(name): frame[name].to_numpy() for name in ((is_whole and READING.names) or frame.columns)}
+    made = of_reading_columns(columns) if frame is None or is_frame(frame) else array_of(frame, Reading).copy()
     if told := misfits(made):
         raise SdmError(Status.OUT_OF_RANGE, f"out of range: {told[1]}")
     return made
+
+
+def of_reading_columns(columns: dict[str, Any]) -> Array:
+    """Readings from columns, of which the last two may be missing."""
+    given, names = BY_DEFAULT | columns, READING.names or ()
+    if set(given) != set(names):
+        raise FormError(f"the columns are {', '.join(given)}; expected {', '.join(names)}")
+    try:
+        return of_columns(Reading, given)
+    except ValueError as why:
+        raise FormError(f"the columns differ in length: {why}") from None
 
 
 def misfits(array: Array) -> tuple[int, str] | None:
@@ -189,7 +207,7 @@ def misfits(array: Array) -> tuple[int, str] | None:
 def records_in(records: Any) -> list[Record]:
     """Records of any form as values."""
     if isinstance(records, np.ndarray) or is_frame(records):
-        return [Reading(*fields) for fields in readings(records).tolist()]
+        return [Reading(*fields) for fields in array_of(records, Reading).tolist()]
     return list(records_of(records) if isinstance(records, str | bytes) else records)
 
 

@@ -163,9 +163,9 @@ class Numbers(unittest.TestCase):
     def test_columns(self):
         given = {name: [value] for name, value in vars(SOME).items()}
         for change, kind, told in (
-            ({"time_ds": [0.5]}, sdm.KindError, "time_ds of reading 1 is 0.5"),
-            ({"time_ds": [1, float("nan")]}, sdm.KindError, "time_ds of reading 1 is 1.0"),
-            ({"time_ds": pandas.array([1, None], "Int64")}, sdm.KindError, "time_ds of reading 2 is <NA>"),
+            ({"time_ds": [0.5]}, sdm.KindError, "time_ds of row 1 is 0.5"),
+            ({"time_ds": [1, float("nan")]}, sdm.KindError, "time_ds of row 1 is 1.0"),
+            ({"time_ds": pandas.array([1, None], "Int64")}, sdm.KindError, "time_ds of row 2 is <NA>"),
             ({"more": 1}, sdm.FormError, "expected time_ds, est_mm, min_mm"),
             ({"time_ds": [1, 2], "est_mm": [1, 2, 3]}, sdm.FormError, "the columns differ in length"),
             ({"speed_mm_s": [-1]}, SdmError, "reading 1: speed_mm_s is -1 mm/s, expected 0 to 138,888 mm/s"),
@@ -179,6 +179,21 @@ class Numbers(unittest.TestCase):
             self.assertIn(
                 "expected an array, a frame or a list of Row", self.told(sdm.KindError, lambda: sdm.frame(values))
             )
+
+    def test_rows_of_a_caller(self):
+        frame, array = sdm.frame(ROWS), sdm.array(ROWS)
+        array["sbi_mm"][1] = 0.5
+        for rows, told in (
+            (array, "sbi_mm of row 2 is 0.5; expected a whole number or none"),
+            (frame.assign(sbi_mm=[0.5, 1]), "sbi_mm of row 1 is 0.5; expected a whole number or none"),
+            (frame.assign(time_ds=[0.5, 1]), "time_ds of row 1 is 0.5"),
+            (frame.assign(state="TT"), "state has other words than C, T, R"),
+            (frame.assign(eb=[0, float("nan")]), "eb has other values than True and False"),
+            ([dataclasses.replace(ROWS[0], ebi_mm=0.5)], "ebi_mm is 0.5, of the type float"),
+        ):
+            for call in (sdm.array, sdm.frame):
+                self.assertIn(told, self.told(sdm.KindError, lambda: call(rows)))
+        self.assertEqual(sdm.text(frame.assign(eb=[0, 1])), sdm.text(ROWS))
 
     def test_a_text_is_told_as_values_are(self):
         for text, kind, told in (
@@ -231,28 +246,25 @@ class Names(unittest.TestCase):
             self.assertTrue(issubclass(error, sdm.Error) and issubclass(error, other))
 
     def test_a_caller_s_file_is_typed(self):
-        """By mypy --strict, without the settings of this repository, and with a mistake that it must find."""
+        """By mypy --strict, without the settings of this repository: it finds the mistake in the last line alone."""
         with tempfile.TemporaryDirectory() as room:
             path = Path(room) / "caller.py"
-            for text, due in ((CALLER, 0), (CALLER + "wrong: int = sdm.text([])\n", 1)):
-                path.write_text(text)
-                words = [
-                    "mypy",
-                    "--strict",
-                    "--cache-dir",
-                    room,
-                    "--config-file",
-                    "/dev/null",
-                    "--follow-imports",
-                    "silent",
-                ]
-                done = subprocess.run(
-                    [*words, path],
-                    env={"MYPYPATH": str(TOP / "python"), "PATH": "/usr/bin:/bin"},
-                    capture_output=True,
-                    text=True,
-                )
-                self.assertEqual(done.returncode, due, done.stdout + done.stderr)
+            path.write_text(CALLER + "wrong: int = sdm.text([])\n")
+            words = [
+                "mypy",
+                "--strict",
+                "--cache-dir",
+                room,
+                "--config-file",
+                "/dev/null",
+                "--follow-imports",
+                "silent",
+            ]
+            paths = {"MYPYPATH": str(TOP / "python"), "PATH": "/usr/bin:/bin"}
+            done = subprocess.run([*words, path], env=paths, capture_output=True, text=True)
+        due = f'{path}:{CALLER.count(chr(10)) + 1}: error: Incompatible types in assignment (expression has type "str"'
+        self.assertTrue(done.stdout.startswith(due), done.stdout + done.stderr)
+        self.assertIn("Found 1 error in 1 file", done.stdout)
 
 
 class Compared(unittest.TestCase):
