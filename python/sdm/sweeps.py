@@ -113,8 +113,8 @@ class Kept:
         head = json.dumps({"sweep": [hashlib.sha256(part).hexdigest() for part in parts]})
         data = path.read_bytes() if path.exists() else b""
         whole = data.rfind(b"\n") + 1  # a line that was cut is none
-        first, *lines = data[:whole].decode().splitlines() or [head]
-        if first != head:
+        first, *lines = data[:whole].decode(errors="replace").splitlines() or [head]
+        if first != head or not whole and not head.encode().startswith(data):
             raise FormError(f"{path} is kept of another sweep: its data, its journey or its measure is another one")
         self.results: dict[str, Swept] = {}
         for line in lines:
@@ -193,7 +193,7 @@ def numbered_results(
         with closing(outcomes(do, left(), **crew(processes, executor, count))) as made:
             for (number, variation), result, why in made:
                 result = {**variation, "fault": f"{type(why).__name__}: {why}"} if why is not None else result
-                if kept is not None:
+                if kept is not None and why is None:
                     kept.add(variation, result)
                 told.count()
                 yield number, result

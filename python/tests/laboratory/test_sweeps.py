@@ -137,6 +137,20 @@ class Sweeps(unittest.TestCase):
             with self.assertRaisesRegex(sdm.FormError, "is kept of another sweep"):
                 sdm.sweep(words["data"], words["drive"], variations, words["measure"], keep=path)
 
+    def test_another_file_isn_t_written_over(self):
+        for text in (b"time,speed", b"time,speed\n0,5\n", b"\xff\n"):
+            (self.room / "other").write_bytes(text)
+            with self.assertRaisesRegex(sdm.FormError, "is kept of another sweep"):
+                swept({"train.length": range(3)}, processes=1, keep=self.room / "other")
+            self.assertEqual((self.room / "other").read_bytes(), text)
+
+    def test_what_the_machine_did_wrong_is_done_again(self):
+        path, variations = self.room / "kept", {"train.length": [16, 17, 18]}
+        self.assertIn("Ended", swept(variations, lengths, processes=2, keep=path)[1]["fault"])
+        self.assertEqual(
+            [length for length in (16, 17, 18) if f'"train.length": {length}' in path.read_text()], [16, 18]
+        )
+
     def test_a_process_that_ends_loses_nothing_and_does_nothing_twice(self):
         path = self.room / "done"
 
