@@ -2,9 +2,9 @@
 from __future__ import annotations
 
 import os
-from fractions import Fraction
 from typing import TYPE_CHECKING
 
+from sdm.laboratory.comparison import tolerances
 from sdm.laboratory.program import Result
 from sdm.laboratory.walk import read
 
@@ -41,13 +41,17 @@ def report(
 
     Places may be `mm` apart, ceilings `kmh`, times of rows and lines `ds`. Where no rows are given, the journey is run.
     With `diagnose` the page says which misreading or number explains the differences.
-    Raises SdmError where a journey to be run is refused, and sdm.laboratory.program.Fault where the rows are not those
-    of the records, a recording can't be compared, a file can't be read or d3 is missing."""
+    Raises SdmError where a journey to be run is refused, FormError of a mapping without a recording or a tolerance
+    below 0, and Fault where the rows are not those of the records, a recording can't be compared, a file can't be read
+    or d3 is missing."""
     from sdm.arrays import records_in, text
+    from sdm.errors import FormError
     from sdm.library import load
     from sdm.records import input_of
     from sdm.runs import run
 
+    if mapping is not None and recording is None:
+        raise FormError("a mapping is given and no recording")
     held = records_in(records)
     ran = "handed in"
     if rows is None:
@@ -56,8 +60,7 @@ def report(
         ran = f"written by the shared library: {Source(library, read(library)).fact()}"
     recorded = None
     if recording is not None:
-        allowed = {"mm": Fraction(mm), "km/h": Fraction(kmh), "ds": ds}
-        recorded = Recorded(file(recording), None if mapping is None else file(mapping), allowed)
+        recorded = Recorded(file(recording), None if mapping is None else file(mapping), tolerances(mm, kmh, ds))
     return report_of(
         title, Source("input", input_of(data, held)), Result(text(rows), "", 0), ran, recorded, "", diagnose
     )

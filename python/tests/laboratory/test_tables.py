@@ -195,6 +195,15 @@ class Numbers(unittest.TestCase):
                 self.assertIn(told, self.told(sdm.KindError, lambda: call(rows)))
         self.assertEqual(sdm.text(frame.assign(eb=[0, 1])), sdm.text(ROWS))
 
+    def test_words_of_a_report(self):
+        data, _, records = (EXAMPLES / "interventions" / "input").read_text().partition("%%\n")
+        rows, files = [as_row(fields) for fields in rows_by_hand()], EXAMPLES / "interventions"
+        told = self.told(sdm.FormError, lambda: sdm.report(data, records, rows, mapping=files / "mapping.toml"))
+        self.assertEqual(told, "a mapping is given and no recording")
+        words = {"recording": files / "recording.csv", "mapping": files / "mapping.toml", "mm": -1}
+        told = self.told(sdm.FormError, lambda: sdm.report(data, records, rows, **words))
+        self.assertEqual(told, "mm is -1, expected a number from 0 on")
+
     def test_a_text_is_told_as_values_are(self):
         for text, kind, told in (
             ("read,1,2\n", sdm.FormError, "record 1: field count: 3, expected 8: read, time_ds, est_mm"),
