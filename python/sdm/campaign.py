@@ -183,7 +183,9 @@ def summary(words: argparse.Namespace, folders: list[Path]) -> bool:
     """Tells how the journeys ended and which differ from what lies beside them; whether all is well."""
     ends: collections.Counter[int] = collections.Counter()
     same = differ = left = 0
+    told = ProgressLine("journeys compared", len(folders))
     for folder in folders:
+        told.count()
         made = got(folder)
         if made is None:
             left += 1
@@ -194,6 +196,7 @@ def summary(words: argparse.Namespace, folders: list[Path]) -> bool:
         same, differ = same + bool(case.due and not lines), differ + bool(lines)
         if lines and differ <= words.most:
             print("\n".join([f"{case.name} differs", *lines]))
+    told.end()
     print(f"{'end':6}{'journeys':>9}  outcome")
     for code in sorted(ends):
         print(f"{code:<6}{ends[code]:>9}  {OUTCOMES.get(code, 'no end of sdm')}")

@@ -5,6 +5,7 @@ import tempfile
 import unittest
 from pathlib import Path
 
+import sdm
 from sdm.campaign import statistics
 from sdm.laboratory.rows import rows_of
 from sdm.laboratory.statistics import Counts, Margin, count
@@ -46,6 +47,19 @@ class Campaign(unittest.TestCase):
         (self.folder / "group/c/got.code").unlink()
         self.assertIn("3 journeys, 2 to run\n2 journeys were run", self.campaign()[1])
         self.assertIn("3 journeys, 0 to run", self.campaign()[1])
+
+    def test_several_processes_do_the_same(self):
+        (self.folder / "group/b/rows").write_text("2\n4\n")
+        words = ("--program", program(self.room, COPIES))
+        code, told, _ = tool("campaign", self.folder, *words, "--jobs", "3")
+        self.assertEqual((code, told.splitlines()[0]), (1, "3 journeys, 3 to run"))
+        self.assertIn("2 as due, 1 differ, 0 with nothing due, 0 not run", told)
+        self.assertEqual((self.folder / "group/c/got.code").read_text(), "7\n")
+        self.assertEqual(sdm.campaign.statistics(str(self.folder)).journeys[1].verdict, "differs")
+
+    def test_a_program_that_is_killed_has_the_code_of_a_shell(self):
+        tool("campaign", self.folder, "--program", program(self.room, "kill -9 $$"), "--jobs", "2")
+        self.assertEqual((self.folder / "group/a/got.code").read_text(), "137\n")
 
     def test_differences_and_parts(self):
         (self.folder / "group/b/rows").write_text("2\n4\n")
