@@ -1,6 +1,5 @@
 """A diagnosis: what explains the differences of a recording, alone or together, and run by run."""
 
-from collections.abc import Sequence
 from dataclasses import dataclass
 from fractions import Fraction
 from itertools import combinations
@@ -9,35 +8,53 @@ from sdm.laboratory.comparison import Allowed
 from sdm.laboratory.recording import RecordedLine
 from sdm.laboratory.rows import RowTexts
 
-from sdm.diagnosis.fitting import Fit, Ground, deviation_mm, ground_of, judged
+from sdm.diagnosis.checking import Alike, Checks
+from sdm.diagnosis.fitting import Ground, deviation_mm, ground_of
 from sdm.diagnosis.numbers import Number, NumberPath
 from sdm.diagnosis.recorded import RecordedScenes, evenly
 from sdm.diagnosis.runs import Run
 from sdm.diagnosis.scene import MISREADINGS, NUMERIC, RuleCase, Scene, predicted
-from sdm.diagnosis.search import Hypotheses, Progress, Search, hypotheses_of, processors, together
+from sdm.diagnosis.search import Progress, Search, hypotheses_of, processors, together
+from sdm.diagnosis.spans import Span
 
 MOST_TOLD = 5  # explanations
 OF_A_RUN = 60  # rows on which a run is judged
 
 
 @dataclass(frozen=True)
-class ToldExplanation:
-    """An explanation: of each of its hypotheses a sentence and its case, and what it is worth on the rows on which it
-    was checked: how many that differ it explains, how many that agree it breaks, and the mm that it leaves."""
+class ToldFault:
+    """A hypothesis of an explanation, and after it those that make the same of all rows: of each a sentence and its
+    case. `span` is from where to where a number does so."""
 
     sentences: tuple[str, ...]
     cases: tuple[RuleCase, ...]
+    span: Span | None = None
+
+    @property
+    def sentence(self) -> str:
+        """All of them, of which one holds."""
+        return " or ".join(self.sentences)
+
+
+@dataclass(frozen=True)
+class ToldExplanation:
+    """An explanation: its hypotheses, and what it is worth on the rows on which it was checked: how many that differ it
+    explains, how many that agree it breaks, and the mm that it leaves."""
+
+    faults: tuple[ToldFault, ...]
     rows: int
     broken: int
     left_mm: Fraction
 
     @property
+    def cases(self) -> tuple[RuleCase, ...]:
+        """Of each hypothesis the first one of those that make the same of all rows."""
+        return tuple(fault.cases[0] for fault in self.faults)
+
+    @property
     def case(self) -> RuleCase:
         """All its hypotheses together."""
-        case = RuleCase()
-        for each in self.cases:
-            case = case.with_case(each)
-        return case
+        return together(self.cases)
 
 
 @dataclass(frozen=True)
@@ -89,11 +106,13 @@ def diagnosis_of(
     if not held.runs:
         return Diagnosis([], [], [], [], len(held.pairs), 0, 0, (0, 0))
     scene = held.scene(held.chosen())
-    hypotheses = hypotheses_of(scene, held.numbers(scene.looks))
-    with processors(jobs) as pool:
-        found = Search(hypotheses, pool, show).explanations(grounded(scene))
+    hypotheses = hypotheses_of(held.numbers(scene.looks))
     ground = grounded(held.scene(held.checked()))
-    told = explanations(ground, hypotheses, found)
+    with processors(jobs) as pool:
+        search = Search(grounded(scene), hypotheses, pool, show)
+        found = Checks(ground, search).of(search.explanations())
+    numbers = {number.path: number for number in hypotheses.numbers}
+    told = [told_of(each, numbers) for each in found[:MOST_TOLD]]
     return Diagnosis(
         held.runs,
         held.beside.lines(held.runs),
@@ -113,29 +132,27 @@ def grounded(scene: Scene) -> Ground:
     return ground
 
 
-def explanations(ground: Ground, hypotheses: Hypotheses, found: Sequence[Sequence[Fit]]) -> list[ToldExplanation]:
-    """The best explanations by many rows, the first ones of those that were found; none that breaks more than it
-    explains."""
-    numbers = {number.path: number for number in hypotheses.numbers}
-    told = []
-    for explanation in found[: 2 * MOST_TOLD]:
-        cells = predicted(ground.scene, together(explanation))
-        if cells is None:
-            continue
-        fit = judged(ground, together(explanation), cells)
-        if fit.gain > 0:
-            cases = tuple(each.case for each in explanation)
-            sentences = tuple(sentence(case, numbers) for case in cases)
-            told.append(
-                (fit.gain - len(cases), ToldExplanation(sentences, cases, fit.rows, fit.rows_broken, fit.left_mm))
-            )
-    return [each for _, each in sorted(told, key=lambda pair: -pair[0])][:MOST_TOLD]
+def told_of(alike: Alike, numbers: dict[NumberPath, Number]) -> ToldExplanation:
+    """An explanation in words."""
+    best, fit = alike.best, alike.best.fit
+    faults = [
+        ToldFault(
+            (sentence_of(case, numbers, span), *(sentence_of(other, numbers) for other in instead)),
+            (case, *instead),
+            span,
+        )
+        for case, instead, span in zip(best.cases, alike.instead, alike.spans, strict=True)
+    ]
+    return ToldExplanation(tuple(faults), fit.rows, fit.rows_broken, fit.left_mm)
 
 
-def sentence(case: RuleCase, numbers: dict[NumberPath, Number]) -> str:
+def sentence_of(case: RuleCase, numbers: dict[NumberPath, Number], span: Span | None = None) -> str:
     """A hypothesis in a sentence."""
     parts = [MISREADINGS[name].told for name in case.rules]
-    return " and ".join(parts + [numbers[path].sentence(value) for path, value in case.numbers])
+    for path, value in case.numbers:
+        number = numbers[path]
+        parts.append(number.between(*span) if span is not None and span.is_wide else number.sentence(value))
+    return " and ".join(parts)
 
 
 def of_run(held: RecordedScenes, run: Run, told: ToldExplanation) -> OfRun:
@@ -148,10 +165,7 @@ def of_run(held: RecordedScenes, run: Run, told: ToldExplanation) -> OfRun:
 
 def of_hypotheses(ground: Ground, told: ToldExplanation, chosen: tuple[int, ...]) -> OfRun:
     """How many rows some hypotheses of an explanation explain together."""
-    case = RuleCase()
-    for i in chosen:
-        case = case.with_case(told.cases[i])
-    cells = predicted(ground.scene, case)
+    cells = predicted(ground.scene, together([told.cases[i] for i in chosen]))
     if cells is None:
         return OfRun(chosen, 0, len(ground.cells), Fraction(0))
     rows, left = 0, Fraction(0)

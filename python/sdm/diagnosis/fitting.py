@@ -12,6 +12,9 @@ from sdm.diagnosis.scene import ABSENT, CELLS, NUMERIC, RuleCase, Cells, Look, S
 
 ROUNDS = 6  # of the search for a number
 BROKEN = 3  # how many cells that are explained a broken one outweighs
+FAR = 3  # of the values far off: how many are gone on from
+PROMISING = 0.2  # of the cells that differ: what a value must gain of them for a nearer one to be looked for
+CLIMB_CM = 3200  # by how much a place is changed first, in the search for a better one
 WIDE = Fraction(1, 20)  # of a change: how far the changes that rows ask for may be apart, in the first round
 
 
@@ -32,6 +35,11 @@ class Fit:
     def gain(self) -> int:
         """What it is worth: cells explained, less those broken."""
         return self.explained - BROKEN * self.broken
+
+    @property
+    def wrong(self) -> int:
+        """How many cells it leaves that don't agree."""
+        return sum(not each for row in self.agreeing for each in row)
 
 
 @dataclass(frozen=True)
@@ -86,6 +94,19 @@ def judged(ground: Ground, case: RuleCase, cells: Sequence[Cells]) -> Fit:
     return Fit(case, tuple(agreeing), explained, broken, rows, rows_broken, left)
 
 
+def over(ground: Ground, fits: Sequence[Fit]) -> Fit:
+    """What fits one upon the other are worth together, on the ground of the first one."""
+    case, agreeing = RuleCase(), fits[-1].agreeing
+    for fit in fits:
+        case = case.with_case(fit.case)
+    pairs = list(zip(ground.agreeing, agreeing, strict=True))
+    explained = sum(after and not was for before, now in pairs for was, after in zip(before, now))
+    broken = sum(was and not after for before, now in pairs for was, after in zip(before, now))
+    rows = sum(all(now) and not all(before) for before, now in pairs)
+    rows_broken = sum(all(before) and not all(now) for before, now in pairs)
+    return Fit(case, agreeing, explained, broken, rows, rows_broken, max(fit.left_mm for fit in fits))
+
+
 def deviation_mm(look: Look, i: int, value: Any) -> Fraction:
     """How far a place is from the recording's."""
     recorded = look.recorded[i]
@@ -94,8 +115,9 @@ def deviation_mm(look: Look, i: int, value: Any) -> Fraction:
     return Fraction(abs(value - recorded))
 
 
-def fitted(ground: Ground, number: Number) -> Fit | None:
-    """The best value of a number on a ground; None where none changes anything that differs."""
+def fitted(ground: Ground, number: Number, start: NumberValue | None = None) -> Fit | None:
+    """The best value of a number on a ground; None where none changes anything that differs. `start` is one that was
+    good on a part of it."""
     if number.choices:
         tried = [value for value in number.choices if value != number.given]
         fits = [fit for value in tried if (fit := fit_of(ground, RuleCase((), ((number.path, value),))))]
@@ -103,7 +125,7 @@ def fitted(ground: Ground, number: Number) -> Fit | None:
         if chosen is None or isinstance(number.given, bool) or number.unit != "km/h":
             return chosen
         return max([chosen, *near(ground, number, chosen)], key=lambda fit: fit.gain)
-    return solved(ground, number)
+    return solved(ground, number, start)
 
 
 def near(ground: Ground, number: Number, chosen: Fit) -> list[Fit]:
@@ -132,6 +154,11 @@ class Trials:
             self.fits.append((value, judged(self.ground, RuleCase((), ((self.number.path, plain(value)),)), cells)))
         return self.cells[value]
 
+    @property
+    def is_whole(self) -> bool:
+        """Whether a value was tried that leaves nothing."""
+        return any(fit.wrong == 0 for _, fit in self.fits)
+
     def best(self) -> tuple[Fraction, Fit] | None:
         return max(self.fits, key=lambda pair: pair[1].gain) if self.fits else None
 
@@ -140,26 +167,67 @@ def plain(value: Fraction) -> NumberValue:
     return int(value) if value.denominator == 1 else value
 
 
-def solved(ground: Ground, number: Number) -> Fit | None:
-    """The value on which most rows agree, by secants: what each cell asks for, from its change with the value. Where
-    that leads nowhere, from the best of some values that lie far off."""
+def solved(ground: Ground, number: Number, start: NumberValue | None = None) -> Fit | None:
+    """The value on which most rows agree, by what each place asks for, from its change with the value; of a place or a
+    length from some values that lie far off too, since rules turn between them. `start` is one that is near already."""
     trials, given = Trials(ground, number), Fraction(number.given)
-    first = probe(trials, given)
-    if first is None:
-        return None
-    secants(trials, given, first)
+    if start is not None:
+        approach(trials, Fraction(start))
+    else:
+        first = probe(trials, given)
+        if first is not None:
+            secants(trials, given, first)
+        if not trials.is_whole:
+            look_far(trials)
     best = trials.best()
-    if number.far and (best is None or 2 * best[1].gain < ground.wrong):
-        for value in number.far:
-            trials.at(value)
-        tried = [value for value in number.far if value in trials.cells]
-        for value in sorted(tried, key=lambda value: left(trials, value))[:2]:
-            beside = value + number.step
-            if trials.at(beside) is not None:
-                secants(trials, value, beside)
+    if number.far and best is not None and best[1].gain >= PROMISING * ground.wrong:
+        climb(trials)
     whole(trials)
     best = trials.best()
     return None if best is None or best[1].explained == 0 else best[1]
+
+
+def look_far(trials: Trials) -> None:
+    """Goes on from the best of some values that lie far off."""
+    tried = [value for value in trials.number.far if trials.at(value) is not None]
+    if any(changes(trials.ground, trials.cells[value]) for value in tried):
+        for value in sorted(tried, key=lambda value: left(trials, value))[:FAR]:
+            approach(trials, value)
+
+
+def approach(trials: Trials, value: Fraction) -> None:
+    """Tries values from one on, each that which most cells ask for by what a small change does at the one before it."""
+    number, wide = trials.number, WIDE
+    for _ in range(ROUNDS):
+        beside = value + small(number) * (1 if value + small(number) <= number.most else -1)
+        if trials.at(value) is None or trials.at(beside) is None:
+            return
+        asked = asked_for(trials, value, beside, number, wide)
+        if asked is None or asked == value or trials.at(asked) is None:
+            return
+        value, wide = asked, WIDE / 50
+        if trials.is_whole:
+            return
+
+
+def small(number: Number) -> Fraction:
+    """A change that no rule turns in, as a rule: 1 m of a place."""
+    return Fraction(100) if number.unit == "cm" else number.step
+
+
+def climb(trials: Trials) -> None:
+    """Tries values at growing nearness to the best one, as long as they are better."""
+    step = CLIMB_CM
+    while step >= 10 and not trials.is_whole:
+        best = trials.best()
+        if best is None or best[1].explained == 0:
+            return
+        value, fit = best
+        for other in (value - step, value + step):
+            if trials.number.least <= other <= trials.number.most:
+                trials.at(other)
+        best = trials.best()
+        step = step if best is not None and best[1].gain > fit.gain else step // 2
 
 
 def secants(trials: Trials, before: Fraction, value: Fraction) -> None:
@@ -170,7 +238,7 @@ def secants(trials: Trials, before: Fraction, value: Fraction) -> None:
         if asked is None or asked in (before, value) or trials.at(asked) is None:
             return
         before, value, wide = value, asked, WIDE / 50
-        if all(all(row) for row in trials.fits[-1][1].agreeing):
+        if trials.is_whole:
             return
 
 
@@ -195,6 +263,13 @@ def probe(trials: Trials, given: Fraction) -> Fraction | None:
             if changes(trials.ground, cells):
                 return value
     return None
+
+
+def probed(ground: Ground, number: Number) -> tuple[Fraction, list[Cells]] | None:
+    """A first value of a number that changes something that doesn't agree, and what it makes of the rows."""
+    trials = Trials(ground, number)
+    value = probe(trials, Fraction(number.given))
+    return None if value is None else (value, trials.cells[value])
 
 
 def changes(ground: Ground, cells: Sequence[Cells]) -> bool:
@@ -228,13 +303,18 @@ def asked_for(trials: Trials, before: Fraction, value: Fraction, number: Number,
 
 def densest(intervals: Sequence[tuple[float, float]]) -> float:
     """The middle of where most intervals overlap, each given by its middle and half its width."""
+    return deepest(intervals)[0]
+
+
+def deepest(intervals: Sequence[tuple[float, float]]) -> tuple[float, int]:
+    """The same, with how many overlap there."""
     ends = sorted([(at - half, 1) for at, half in intervals] + [(at + half, -1) for at, half in intervals], key=order)
     depth, most, low, high = 0, 0, 0.0, 0.0
     for k, (at, step) in enumerate(ends):
         depth += step
         if step > 0 and depth > most:
             most, low, high = depth, at, ends[k + 1][0]
-    return (low + high) / 2
+    return (low + high) / 2, most
 
 
 def order(end: tuple[float, int]) -> tuple[float, int]:

@@ -81,17 +81,29 @@ for names in (("sb",), ("tco",), ("tco", "sb"), ("eb",)):
     )
     verb = "are" if len(names) > 1 else "is"
     key = "_and_".join(names)
-    OF_COMMANDS.put(f"{key}_not_held", f"{label} {verb} commanded only while a cause stands", not_held(names), DECIDE)
+    count = len(names)
+    OF_COMMANDS.put(
+        f"{key}_not_held",
+        f"{label} {verb} commanded only while a cause stands",
+        not_held(names),
+        DECIDE,
+        parts=count,
+    )
     if names == ("eb",):
         continue
     OF_COMMANDS.put(
-        f"{key}_held_until_standstill", f"{label} {verb} held until standstill", held_while(names, moves), DECIDE
+        f"{key}_held_until_standstill",
+        f"{label} {verb} held until standstill",
+        held_while(names, moves),
+        DECIDE,
+        parts=count,
     )
     OF_COMMANDS.put(
         f"{key}_held_until_C",
         f"{label} {verb} held until the state is C, not until the permitted speed",
         held_while(names, is_target),
         DECIDE,
+        parts=count,
     )
 
 

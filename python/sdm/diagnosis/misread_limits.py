@@ -58,7 +58,7 @@ def SBI_of_the_EOA_without_T_bs(rule: Any) -> Any:
     return limits_by(change)(rule)
 
 
-@OF_LIMITS.add("no SBI has T_bs", LIMITS_OF)
+@OF_LIMITS.add("no SBI has T_bs", LIMITS_OF, parts=2)
 def SBI_without_T_bs(rule: Any) -> Any:
     def change(data: Any, times: Any, curves: Any, reading: Any, each: Any) -> Any:
         return from_SBI(data, times, reading, each, each.curve if each.d_EBI is None else each.d_EBI)
@@ -173,7 +173,7 @@ def speeds_by_the_estimated_front_end(rule: Any) -> Any:
     return compared(Mrsp="est", Loa="est")(rule)
 
 
-@OF_LIMITS.add("all targets compare the estimated front end", COMPARED)
+@OF_LIMITS.add("all targets compare the estimated front end", COMPARED, parts=2)
 def all_by_the_estimated_front_end(rule: Any) -> Any:
     return compared(Mrsp="est", Loa="est", Svl="est")(rule)
 

@@ -47,7 +47,7 @@ def T_bs_though_not_in_use(rule: Any) -> Any:
     )(rule)
 
 
-@OF_TIMES.add("the service brake's build-up time never counts", TIMES)
+@OF_TIMES.add("the service brake's build-up time never counts", TIMES, parts=3)
 def T_bs_left_out(rule: Any) -> Any:
     return times(T_bs=lambda data, there: 0, T_indication=lambda data, there: indication(0))(rule)
 
@@ -158,7 +158,7 @@ def D_bec_with_V_est(rule: Any) -> Any:
     return bec(own)(rule)
 
 
-@OF_TIMES.add("V_bec is V_est: neither under-reading nor acceleration count", BEC)
+@OF_TIMES.add("V_bec is V_est: neither under-reading nor acceleration count", BEC, parts=3)
 def V_bec_is_V_est(rule: Any) -> Any:
     def own(V: Any, V0: Any, V1: Any, V2: Any, V_target: Any, T1: Any, T2: Any) -> tuple[Any, Any]:
         return max(V, V_target), way(max(V, V_target), T1 + T2)

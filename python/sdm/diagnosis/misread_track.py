@@ -104,7 +104,9 @@ def by_areas(adhesion: str, no_special: str, with_length: tuple[bool, bool]) -> 
     return changed_under(change)
 
 
-@OF_TRACK.add("areas of adhesion and without the special brake end with the front end, not the rear end", UNDER)
+@OF_TRACK.add(
+    "areas of adhesion and without the special brake end with the front end, not the rear end", UNDER, parts=2
+)
 def areas_end_with_the_front_end(rule: Any) -> Any:
     return by_areas("adhesion", "no_special", (False, False))(rule)
 
@@ -238,7 +240,7 @@ def mass_tenfold(rule: Any) -> Any:
     return mass(lambda data, grad: 10 * own_mass(data, 15, 2, grad))(rule)
 
 
-@OF_TRACK.add("no gradient counts in any deceleration", A_GRADIENT)
+@OF_TRACK.add("no gradient counts in any deceleration", A_GRADIENT, parts=3)
 def no_gradient(rule: Any) -> Any:
     return lambda data, grad: Fraction(0)
 

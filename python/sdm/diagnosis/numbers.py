@@ -14,6 +14,7 @@ NumberValue = int | Fraction | bool
 Changes = tuple[tuple[NumberPath, NumberValue], ...]
 MOST_ENTRIES = 12  # of a list, those nearest to what is looked at
 SHOWN = {"cm": ("m", 100), "ds": ("s", 10), "mm": ("m", 1000), "cm/s²": ("m/s²", 100), "mm/s": ("m/s", 1000)}
+FAR_M = (20, 50, 100, 150, 200, 250, 300, 400, 600)  # by which places are changed, to see what turns
 RELEASES = tuple(range(0, 65, 5))  # km/h, that are tried
 
 
@@ -37,8 +38,9 @@ class Number:
             return []
         given = Fraction(self.given)
         if self.path[-1] == "length":
-            return [given * part / 10 for part in (3, 5, 6, 7, 8, 12, 15, 20)]
-        return [given + 100 * by for by in (-400, -250, -150, -75, 75, 150, 250, 400) if given + 100 * by >= self.least]
+            return [given * part / 20 for part in (4, 6, 8, 10, 11, 12, 13, 14, 15, 16, 17, 18, 22, 24, 28, 32, 40)]
+        by = [sign * metres for metres in FAR_M for sign in (-1, 1)]
+        return [given + 100 * m for m in by if self.least <= given + 100 * m <= self.most]
 
     @property
     def step(self) -> Fraction:
@@ -50,6 +52,11 @@ class Number:
         if isinstance(self.given, bool):
             return f"{self.told} is {str(value).lower()}, not {str(self.given).lower()}"
         return f"{self.told} is {shown(value)}{self.unit and ' ' + self.unit}, not {shown(self.given)}"
+
+    def between(self, least: NumberValue, greatest: NumberValue) -> str:
+        """That it is another one, of which is known only between which it lies."""
+        unit = self.unit and " " + self.unit
+        return f"{self.told} is from {shown(least)} to {shown(greatest)}{unit}, not {shown(self.given)}"
 
 
 def shown(value: NumberValue) -> str:

@@ -17,7 +17,7 @@ from sdm.diagnosis.scene import ABSENT, CELLS, LookedJourney, Look, Scene
 MOST_LOOKS = 56  # rows that hypotheses are tried on
 OF_A_RUN = 8
 BESIDE = 12  # rows that agree, among these
-MOST_CHECKED = 600  # rows on which what was found is checked in the end
+MOST_CHECKED = 2_000  # rows on which what was found is checked in the end
 
 
 class RecordedScenes:

@@ -14,29 +14,31 @@ Make = Callable[[Any], Any]  # makes the other rule of the one that stands there
 
 @dataclass(frozen=True)
 class Misreading:
-    """A rule that is read otherwise: its name, what the other computer does, and the rules of the model that change."""
+    """A rule that is read otherwise: its name, what the other computer does, the rules of the model that change, and
+    how many misreadings it is made of: of two that look alike in a recording the one of fewer stands first."""
 
     name: str
     told: str
     rules: tuple[Reread, ...]
+    parts: int = 1
 
 
 class Misreadings(dict[str, Misreading]):
     """Misreadings by their names."""
 
-    def add(self, told: str, *places: tuple[Any, str]) -> Callable[[Make], Make]:
+    def add(self, told: str, *places: tuple[Any, str], parts: int = 1) -> Callable[[Make], Make]:
         """Has what a function makes stand at some places of the model; the function's name is the misreading's."""
 
         def taken(make: Make) -> Make:
-            self.put(make.__name__, told, make, *places)
+            self.put(make.__name__, told, make, *places, parts=parts)
             return make
 
         return taken
 
-    def put(self, name: str, told: str, make: Make, *places: tuple[Any, str]) -> None:
+    def put(self, name: str, told: str, make: Make, *places: tuple[Any, str], parts: int = 1) -> None:
         """The same with a name."""
         assert name not in self, f"two misreadings are called {name}"
-        self[name] = Misreading(name, told, tuple(Reread(owner, at, make) for owner, at in places))
+        self[name] = Misreading(name, told, tuple(Reread(owner, at, make) for owner, at in places), parts)
 
 
 def always(rule: Any) -> Make:

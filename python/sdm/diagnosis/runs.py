@@ -102,6 +102,11 @@ class Joints:
             open_ones[kind] = going_on
         return made
 
+    def before(self, row: int) -> int:
+        """The row that is compared before one, 0 before the first one."""
+        at = bisect_left(self.compared, row)
+        return self.compared[at - 1] if at > 0 else 0
+
     def agreeing(self, differing: Sequence[int], before: int, row: int) -> int:
         """How many rows between two agree."""
         return sum(
@@ -140,10 +145,11 @@ def runs_of(
     for each in sorted(beyond, key=lambda each: each.row):
         columns.setdefault(each.column, []).append(each)
     runs = runs_of_places({name: columns[name] for name in LIMITS if name in columns}, joints)
-    for name in [name for name in COLUMNS_BY_WORTH if name in columns]:
-        led = [each for each in columns[name] if follows(each)]
-        alone = set(put(runs, name, led)) | set(columns[name]) - set(led)
-        rest = [each for each in columns[name] if each in alone]
+    words = [name for name in COLUMNS_BY_WORTH if name in columns]
+    led = [each for name in words for each in columns[name] if follows(each)]
+    within = put(runs, sorted(led, key=lambda each: each.row), joints)
+    for name in words:
+        rest = [each for each in columns[name] if each not in within]
         runs += [Run({name: each}) for each in joints.stretches(rest)]
     return sorted(runs, key=lambda run: (run.first, run.last))
 
@@ -163,16 +169,19 @@ def runs_of_places(columns: Mapping[str, list[Difference]], joints: Joints) -> l
     return runs
 
 
-def put(runs: list[Run], name: str, led: list[Difference]) -> list[Difference]:
-    """Puts words that follow from places into the runs of these; answers those that are in none."""
-    alone = []
+def put(runs: list[Run], led: Sequence[Difference], joints: Joints) -> set[Difference]:
+    """Puts words that follow from places into the runs of these, and with them those of the rows behind their ends, as
+    long as one of the row before is held there: those that are in a run."""
+    within = set()
+    held: dict[int, Run] = {}  # by the row
     for each in led:
         around = [run for run in runs if run.first <= each.row <= run.last and run.column in UNITS]
-        if around:
-            around[0].words.setdefault(name, []).append(each)
-        else:
-            alone.append(each)
-    return alone
+        run = around[0] if around else held.get(joints.before(each.row))
+        if run is not None:
+            run.words.setdefault(each.column, []).append(each)
+            held[each.row] = run
+            within.add(each)
+    return within
 
 
 def told(run: Run, speeds: Mapping[int, Fraction] | None = None) -> str:
@@ -188,10 +197,16 @@ def told(run: Run, speeds: Mapping[int, Fraction] | None = None) -> str:
             parts.append(column_told(name, other, None))
     if alike:
         parts.insert(1, f"{', '.join(alike)} likewise")
-    parts += [f"{name} follows in {len(found)}" for name, found in run.words.items()]
+    parts += [word_told(name, found, run.last) for name, found in run.words.items()]
     count = len(run.numbers)
     apart = run.last - run.first + 1
     return f"{rows}: {'; '.join(parts)}" + (f" ({count} of these rows differ)" if count < apart else "")
+
+
+def word_told(name: str, found: ColumnStretch, last: int) -> str:
+    """In how many rows a word follows from places, and up to where it is held on behind them."""
+    held = f", up to row {found[-1].row}" if found[-1].row > last else ""
+    return f"{name} follows in {len(found)}{held}"
 
 
 def extremes(stretch: ColumnStretch) -> tuple[Fraction, Fraction]:
@@ -236,7 +251,7 @@ def amount(value: Fraction, unit: str) -> str:
     """A deviation as it is read best."""
     if unit == "mm" and value >= 1000:
         return f"{number(round(value / 1000, 1))} m"
-    return f"{number(value, 3)} {unit}"
+    return f"{number(round(value, 3), 3)} {unit}"
 
 
 def growth(stretch: ColumnStretch, speeds: Mapping[int, Fraction] | None) -> str:

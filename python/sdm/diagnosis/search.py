@@ -1,5 +1,5 @@
-"""The search for what explains a recording: every misreading and every number, alone, and then on the ground of those
-that explain most."""
+"""The search for what explains a recording: every misreading and every number, alone, on the ground of those that
+explain most, two at once where neither explains a cell alone, and each again beside the others that were found."""
 
 import os
 from collections.abc import Callable, Iterator, Sequence
@@ -9,18 +9,20 @@ from dataclasses import dataclass
 from functools import partial
 from typing import Any, NamedTuple
 
-from sdm.diagnosis.fitting import Fit, Ground, fit_of, fitted, ground_of
-from sdm.diagnosis.numbers import Number
-from sdm.diagnosis.scene import MISREADINGS, RuleCase, Scene
+from sdm.diagnosis.fitting import Fit, Ground, fit_of, fitted, ground_of, judged, over
+from sdm.diagnosis.joint import both, candidates, moves
+from sdm.diagnosis.numbers import Number, NumberValue
+from sdm.diagnosis.scene import MISREADINGS, RuleCase, predicted
 
 FEW = 14  # rows on which a hypothesis is tried first
 WIDTH = 3  # how many of the best ones are built on
 MOST_FAULTS = 4  # in an explanation
-RIGHT = 12  # rows that agree, on which an explanation is built on
+MOST_ROUNDS = 3  # in which the hypotheses of an explanation are looked for again
 NEAR = 0.4  # of the best one's worth: what one must have to be built on
 LEAST = 0.04  # of the cells that differ: what a hypothesis must gain of them
 CHUNK = 6  # hypotheses to a job
 Progress = Callable[[str, int, int], None]
+Hypothesis = str | Number
 
 
 @dataclass(frozen=True)
@@ -30,24 +32,38 @@ class Hypotheses:
     rules: tuple[str, ...]
     numbers: tuple[Number, ...]
 
-    def all(self) -> list[str | Number]:
+    def all(self) -> list[Hypothesis]:
         return [*self.rules, *self.numbers]
 
 
-_ground: Ground | None = None  # of this process
+class Explanation(NamedTuple):
+    """An explanation: its hypotheses, and what they are worth together on the ground of the profile."""
+
+    cases: tuple[RuleCase, ...]
+    fit: Fit
+
+    @property
+    def is_whole(self) -> bool:
+        """Whether it leaves no cell of those that it was tried on."""
+        return all(all(row) for row in self.fit.agreeing)
 
 
-def try_one(ground: Ground, hypothesis: str | Number) -> Fit | None:
+def try_one(ground: Ground, hypothesis: Hypothesis) -> Fit | None:
     """The best that a hypothesis gives on a ground, tried on a few rows first."""
     few = ground.part(chosen(ground))
     found = try_on(few, hypothesis)
     if found is None or found.explained == 0 or found.gain < 0:
         return None
-    return try_on(ground, hypothesis) if len(few.cells) < len(ground.cells) else found
+    if len(few.cells) == len(ground.cells):
+        return found
+    return try_on(ground, hypothesis, *(value for _, value in found.case.numbers))
 
 
-def try_on(ground: Ground, hypothesis: str | Number) -> Fit | None:
-    return fit_of(ground, RuleCase((hypothesis,))) if isinstance(hypothesis, str) else fitted(ground, hypothesis)
+def try_on(ground: Ground, hypothesis: Hypothesis, start: NumberValue | None = None) -> Fit | None:
+    """The best of a hypothesis; `start` is a number's value that is near it."""
+    if isinstance(hypothesis, str):
+        return fit_of(ground, RuleCase((hypothesis,)))
+    return fitted(ground, hypothesis, start)
 
 
 def chosen(ground: Ground) -> list[int]:
@@ -72,70 +88,124 @@ def spread(rank: int, count: int) -> int:
     return order[rank]
 
 
-def try_chunk(ground: Ground, hypotheses: Sequence[str | Number]) -> list[Fit]:
+def try_chunk(ground: Ground, hypotheses: Sequence[Hypothesis]) -> list[Fit]:
     return [fit for each in hypotheses if (fit := try_one(ground, each)) is not None]
 
 
+def try_moves(ground: Ground, hypotheses: Sequence[Hypothesis]) -> list[Any]:
+    return [move for each in hypotheses for move in moves(ground, each)]
+
+
 class Search:
-    """Tries hypotheses, on all processors."""
+    """Looks for what explains a ground, on all processors."""
 
-    def __init__(self, hypotheses: Hypotheses, pool: Executor | None, progress: Progress) -> None:
-        self.hypotheses, self.pool, self.progress = hypotheses, pool, progress
+    def __init__(self, ground: Ground, hypotheses: Hypotheses, pool: Executor | None, progress: Progress) -> None:
+        self.ground, self.hypotheses, self.pool, self.progress = ground, hypotheses, pool, progress
+        self.tried: dict[RuleCase, list[Fit]] = {}
 
-    def fits(self, ground: Ground, title: str) -> list[Fit]:
-        """What each hypothesis gives on a ground, the best first; of equal ones those of rules before numbers."""
-        tried = self.hypotheses.all()
-        chunks = [tried[i :: max(len(tried) // CHUNK, 1)] for i in range(max(len(tried) // CHUNK, 1))]
-        make: Any = self.pool.map if self.pool is not None else map
-        found: list[Fit] = []
+    def made(self, make: Callable[[Any], list[Any]], given: Sequence[Any], title: str) -> list[Any]:
+        """What is made of each of many, in some chunks."""
+        count = max(len(given) // CHUNK, 1)
+        chunks = [given[i::count] for i in range(count)]
+        mapped: Any = self.pool.map if self.pool is not None else map
+        found: list[Any] = []
         done = 0
-        for chunk, fits in zip(chunks, make(partial(try_chunk, ground), chunks)):
-            found += fits
+        for chunk, part in zip(chunks, mapped(make, chunks)):
+            found += part
             done += len(chunk)
-            self.progress(title, done, len(tried))
-        return sorted(found, key=worth, reverse=True)
+            self.progress(title, done, len(given))
+        return found
 
-    def explanations(self, ground: Ground) -> list[list[Fit]]:
-        """Explanations, the best first, each as hypotheses one upon the other."""
-        found = self.longer(Built((), ground), "alone")
+    def fits(self, case: RuleCase, title: str) -> list[Fit]:
+        """What each hypothesis gives where a case holds already, the best first."""
+        if case not in self.tried:
+            ground = self.ground if case == RuleCase() else ground_of(self.ground.scene, case)
+            found = [] if ground is None else self.made(partial(try_chunk, ground), self.hypotheses.all(), title)
+            self.tried[case] = sorted(found, key=worth, reverse=True)
+        return self.tried[case]
+
+    def explanations(self) -> list[Explanation]:
+        """Explanations, the best first."""
+        found = self.longer(None, "alone")
         beam = distinct(found)
         for count in range(2, MOST_FAULTS + 1):
-            if any(is_whole(each) for each in found):
+            if any(each.is_whole for each in found):
                 break
-            grounds = [(each, left_by(each)) for each in beam]
-            longer = [
-                more
-                for each, left in grounds
-                if left is not None
-                for more in self.longer(Built(each.fits, left), f"{count} together")
-            ]
+            longer = [more for each in beam for more in self.longer(each, f"{count} together")]
+            if count == 2 and not any(each.is_whole for each in longer):
+                longer += self.at_once()
             found += longer
             beam = distinct(sorted(longer, key=total, reverse=True))[: WIDTH if count == 2 else 1]
-        return [list(each.fits) for each in sorted(found, key=total, reverse=True)]
+            if beam and not beam[0].is_whole:
+                beam[0] = self.again(beam[0])
+                found.append(beam[0])
+        return sorted(found, key=total, reverse=True)
 
-    def longer(self, built: "Built", title: str) -> list["Built"]:
+    def longer(self, explanation: Explanation | None, title: str) -> list[Explanation]:
         """An explanation with one hypothesis more."""
-        fits = [fit for fit in self.fits(built.ground, title) if fit.gain >= least(built.ground)]
-        return [Built((*built.fits, fit), built.ground) for fit in fits if adds(built.fits, fit)]
+        cases = () if explanation is None else explanation.cases
+        before = [] if explanation is None else [explanation.fit]
+        fits = self.fits(together(cases), title)
+        left = self.ground.wrong if explanation is None else explanation.fit.wrong
+        told = [fit for fit in fits if fit.gain >= least(left, fit.case) and adds(cases, fit.case)]
+        return [Explanation((*cases, fit.case), over(self.ground, [*before, fit])) for fit in told]
+
+    def worth_of(self, cases: tuple[RuleCase, ...]) -> Fit:
+        """What hypotheses are worth together."""
+        cells = predicted(self.ground.scene, together(cases))
+        assert cells is not None, "they were found on these rows"
+        return judged(self.ground, together(cases), cells)
+
+    def at_once(self) -> list[Explanation]:
+        """Two hypotheses that change the same cells, so that neither explains them alone."""
+        moved = self.made(partial(try_moves, self.ground), self.hypotheses.all(), "two at once")
+        pairs = candidates(self.ground, moved, self.made)
+        found = self.made(partial(both, self.ground), pairs, "two at once")
+        made = [Explanation(tuple(fit.case for fit in fits), over(self.ground, fits)) for fits in found]
+        return [
+            each
+            for each in made
+            if adds(each.cases[:1], each.cases[1])
+            and each.fit.gain >= sum(least(self.ground.wrong, case) for case in each.cases)
+        ]
+
+    def again(self, explanation: Explanation) -> Explanation:
+        """An explanation whose hypotheses are looked for again, each beside the others."""
+        for _ in range(MOST_ROUNDS):
+            before = explanation
+            for i in range(len(explanation.cases)):
+                better = max([explanation, *self.instead(explanation, i)], key=total)
+                explanation = better if total(better) > total(explanation) else explanation
+            if explanation is before:
+                break
+        return explanation
+
+    def instead(self, explanation: Explanation, i: int) -> list[Explanation]:
+        """What explains as much and more with another hypothesis in the i-th one's place."""
+        others = explanation.cases[:i] + explanation.cases[i + 1 :]
+        ground = ground_of(self.ground.scene, together(others))
+        if ground is None:
+            return []
+        held = Fit(together(others), ground.agreeing, 0, 0, 0, 0, explanation.fit.left_mm * 0)
+        fits = [fit for fit in self.fits(together(others), "again") if adds(others, fit.case)]
+        found = [(fit, over(self.ground, [held, fit])) for fit in fits]
+        return [
+            Explanation((*others[:i], fit.case, *others[i:]), of)
+            for fit, of in found
+            if of.gain >= explanation.fit.gain
+        ]
 
 
-class Built(NamedTuple):
-    """An explanation: hypotheses one upon the other, and the ground on which the last one was tried."""
-
-    fits: tuple[Fit, ...]
-    ground: Ground
+def least(wrong: int, case: RuleCase) -> float:
+    """What a hypothesis must gain of the cells that differ: two at least, but for a rule where there is but one."""
+    return max(2 if case.numbers else min(2, wrong), LEAST * wrong)
 
 
-def least(ground: Ground) -> float:
-    """What a hypothesis must gain to count on a ground."""
-    return max(2, LEAST * ground.wrong)
-
-
-def adds(explanation: Sequence[Fit], fit: Fit) -> bool:
-    """Whether a hypothesis isn't in an explanation already, by its rule or its number."""
-    held = {name for each in explanation for name in each.case.rules}
-    paths = {path for each in explanation for path, _ in each.case.numbers}
-    return not held & set(fit.case.rules) and not paths & {path for path, _ in fit.case.numbers}
+def adds(cases: Sequence[RuleCase], case: RuleCase) -> bool:
+    """Whether a hypothesis isn't among some already, by its rule or its number."""
+    held = {name for each in cases for name in each.rules}
+    paths = {path for each in cases for path, _ in each.numbers}
+    return not held & set(case.rules) and not paths & {path for path, _ in case.numbers}
 
 
 def worth(fit: Fit) -> tuple[float, ...]:
@@ -149,41 +219,26 @@ def simplicity(case: RuleCase) -> int:
     return max(kinds, default=0)
 
 
-def total(built: Built) -> tuple[float, ...]:
-    """The order of explanations: by what they gain, less a little for each hypothesis."""
-    gain = sum(fit.gain for fit in built.fits)
-    free = sum(simplicity(fit.case) for fit in built.fits)
-    return gain - 2 * (len(built.fits) - 1), -free, -float(built.fits[-1].left_mm)
+def total(explanation: Explanation) -> tuple[float, ...]:
+    """The order of explanations: by what they gain, less a little for each hypothesis, then as hypotheses alone."""
+    free = sum(simplicity(case) for case in explanation.cases)
+    return explanation.fit.gain - 2 * (len(explanation.cases) - 1), -free, -float(explanation.fit.left_mm)
 
 
-def is_whole(built: Built) -> bool:
-    """Whether an explanation leaves no cell of those that the last hypothesis was tried on."""
-    return all(all(row) for row in built.fits[-1].agreeing)
-
-
-def together(explanation: Sequence[Fit]) -> RuleCase:
-    """The case of all its hypotheses."""
+def together(cases: Sequence[RuleCase]) -> RuleCase:
+    """The case of all of some hypotheses."""
     case = RuleCase()
-    for fit in explanation:
-        case = case.with_case(fit.case)
+    for each in cases:
+        case = case.with_case(each)
     return case
 
 
-def left_by(built: Built) -> Ground | None:
-    """The ground that an explanation leaves: the rows that it doesn't explain, with some that agree."""
-    rows = built.fits[-1].agreeing
-    wrong = [i for i, row in enumerate(rows) if not all(row)]
-    right = [i for i, row in enumerate(rows) if all(row)]
-    part = built.ground.part(sorted(wrong + right[:: max(len(right) // RIGHT, 1)]))
-    return ground_of(part.scene, together(built.fits))
-
-
-def distinct(explanations: Sequence[Built]) -> list[Built]:
+def distinct(explanations: Sequence[Explanation]) -> list[Explanation]:
     """The first explanations that leave different cells, as long as they are worth enough."""
-    found: dict[object, Built] = {}
+    found: dict[object, Explanation] = {}
     for each in explanations:
         if total(each)[0] >= NEAR * total(explanations[0])[0]:
-            found.setdefault(each.fits[-1].agreeing, each)
+            found.setdefault(each.fit.agreeing, each)
     return list(found.values())[:WIDTH]
 
 
@@ -198,6 +253,6 @@ def processors(count: int | None) -> Iterator[Executor | None]:
         yield pool
 
 
-def hypotheses_of(scene: Scene, numbers: Sequence[Number]) -> Hypotheses:
+def hypotheses_of(numbers: Sequence[Number]) -> Hypotheses:
     """All misreadings, and numbers."""
     return Hypotheses(tuple(MISREADINGS), tuple(numbers))

@@ -2,8 +2,7 @@
 
 from sdm.laboratory.texts import number
 
-from sdm.diagnosis.diagnosing import Diagnosis, OfRun, ToldExplanation
-from sdm.diagnosis.search import simplicity
+from sdm.diagnosis.diagnosing import Diagnosis, OfRun, ToldExplanation, ToldFault
 
 
 def lines_of(found: Diagnosis, most: int) -> list[str]:
@@ -26,12 +25,18 @@ def explanation_lines(found: Diagnosis) -> list[str]:
         return ["nothing fits: no misreading and no number explains what differs"]
     lines = [f"what explains them, the best first, by {found.checked} rows of which {found.differing} differ:"]
     for n, told in enumerate(found.explanations, 1):
-        lines += [f"{f'  {n}.' if i == 0 else '    '} {letter(i)} {text}" for i, text in enumerate(told.sentences)]
+        for i, fault in enumerate(told.faults):
+            lines += fault_lines(f"{f'  {n}.' if i == 0 else '    '} {letter(i)}", fault)
         lines.append(f"     {worth_text(told, found.differing)}")
-    same = equals(found)
-    if same > 1:
-        lines.append(f"  The first {same} explain the same rows: this recording doesn't tell them apart.")
+    if any(len(fault.cases) > 1 for told in found.explanations for fault in told.faults):
+        lines.append("  This recording doesn't tell apart what stands with `or`: it makes the same of all these rows.")
     return lines
+
+
+def fault_lines(head: str, fault: ToldFault) -> list[str]:
+    """A hypothesis, and those that the recording doesn't tell apart from it."""
+    first, *others = fault.sentences
+    return [f"{head} {first}"] + [f"{'':{len(head) - 2}}or {other}" for other in others]
 
 
 def worth_text(told: ToldExplanation, differing: int) -> str:
@@ -39,16 +44,6 @@ def worth_text(told: ToldExplanation, differing: int) -> str:
     broken = f"breaks {told.broken} that agree" if told.broken else "breaks none"
     left = f", leaves {number(told.left_mm, 1)} mm" if told.rows else ""
     return f"explains {told.rows} of {differing} rows wholly, {broken}{left}"
-
-
-def equals(found: Diagnosis) -> int:
-    """How many explanations, from the first on, are worth the same and are as simple."""
-    first = found.explanations[0]
-
-    def key(told: ToldExplanation) -> tuple[int, ...]:
-        return told.rows, told.broken, len(told.cases), simplicity(told.case) // 2
-
-    return sum(key(each) == key(first) for each in found.explanations)
 
 
 def letter(i: int) -> str:
@@ -60,6 +55,6 @@ def run_text(told: ToldExplanation, of: OfRun) -> str:
     """What explains a run."""
     if of.rows == 0:
         return "nothing that was found explains it"
-    which = " and ".join(f"{letter(i)} {told.sentences[i]}" for i in of.hypotheses)
+    which = " and ".join(f"{letter(i)} {told.faults[i].sentence}" for i in of.hypotheses)
     rows = "" if of.rows == of.judged else f" in {of.rows} of {of.judged} rows that were looked at"
     return f"explained{rows} by: {which} ({number(of.left_mm, 1)} mm left)"

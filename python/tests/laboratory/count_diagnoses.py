@@ -12,7 +12,6 @@ import time
 from fractions import Fraction
 
 from sdm.diagnosis.diagnosing import diagnosis_of
-from sdm.diagnosis.telling import equals
 from sdm.laboratory.recording import recording_of
 from sdm.laboratory.rows import rows_of
 
@@ -29,28 +28,51 @@ def diagnosed(plant, jobs=1):
     return diagnosis_of(plant.source, rows_of(plant.rows), lines, ALLOWED, jobs)
 
 
+def placed(due):
+    """The path of a number of the data part: authorities are counted."""
+    return ("authority", 0, *due[1:]) if due[0] == "authority" else due
+
+
 def names(case, kind, values):
     """Whether a hypothesis is what was planted; a number within a hundredth."""
     if any(name in kind.due for name in case.rules):
         return True
     for path, value in case.numbers:
         for due in kind.due:
-            where = ("authority", 0, *due[1:]) if due[0] == "authority" else due
-            if path == where and abs(Fraction(value) - values[due]) <= NEAR * abs(values[due]):
+            if path == placed(due) and abs(Fraction(value) - values[due]) <= NEAR * abs(values[due]):
                 return True
     return False
 
 
+def is_in(fault, kind, values):
+    """Whether a finding has what was planted: first, and at all, as one of those that stand with `or` or within the
+    values from which the recording doesn't tell it."""
+    first, *others = fault.cases
+    spanned = fault.span is not None and any(
+        due in values and fault.span.least <= values[due] <= fault.span.greatest
+        for path, _ in first.numbers
+        for due in kind.due
+        if path == placed(due)
+    )
+    return names(first, kind, values), spanned or any(names(case, kind, values) for case in fault.cases)
+
+
 def is_first(found, plant, kind):
-    """Whether the first explanation is what was planted, alone; and whether one of those that explain the same is."""
-    if not found.explanations:
+    """Whether the first explanation is what was planted, alone: before all that stands with `or`, and at all."""
+    if not found.explanations or len(found.explanations[0].faults) > 1:
         return False, False
-    alike = [len(each.cases) == 1 and names(each.cases[0], kind, plant.values) for each in found.explanations]
-    return alike[0], any(alike[: equals(found)])
+    return is_in(found.explanations[0].faults[0], kind, plant.values)
+
+
+def named_in(found, plant, two):
+    """Whether each of some kinds is in the first explanation; and whether that is so with what stands with `or`."""
+    faults = found.explanations[0].faults if found.explanations else ()
+    named = [[is_in(fault, kind, plant.values) for fault in faults] for kind in two]
+    return tuple(all(any(each[i] for each in of_kind) for of_kind in named) for i in (0, 1))
 
 
 def told(found):
-    return " + ".join(found.explanations[0].sentences) if found.explanations else "nothing"
+    return " + ".join(fault.sentence for fault in found.explanations[0].faults) if found.explanations else "nothing"
 
 
 def part_of(each, part):
@@ -68,7 +90,7 @@ def count_singles(part):
         mark = "first" if is_it else "alike" if is_alike else "MISSED"
         seconds = time.process_time() - begun
         print(f"{mark:7}{kind.name} ({at}, {plant.differing()} rows, {seconds:.1f} s): {told(found)}", flush=True)
-    print(f"singles: {first} of {count} named first, {alike} first or among those that explain the same")
+    print(f"singles: {alike} of {count} named first, {first} of them before what stands with `or`")
 
 
 def pairs():
@@ -77,7 +99,7 @@ def pairs():
 
 
 def count_pairs(part):
-    both = count = 0
+    both = alike = count = 0
     chosen = []
     for i, two in enumerate(pairs()):
         given = [flag for kind in two for flag in kind.given.items()]
@@ -91,13 +113,13 @@ def count_pairs(part):
             continue
         begun = time.process_time()
         found = diagnosed(plant)
-        cases = found.explanations[0].cases if found.explanations else ()
-        hit = all(any(names(case, kind, plant.values) for case in cases) for kind in two)
-        count, both = count + 1, both + hit
+        firsts, hit = named_in(found, plant, two)
+        count, both, alike = count + 1, both + firsts, alike + hit
         seconds = time.process_time() - begun
         title = " + ".join(kind.name for kind in two)
-        print(f"{'both' if hit else 'MISSED':7}{title} ({at}, {seconds:.1f} s): {told(found)}", flush=True)
-    print(f"pairs: both named in {both} of {count}")
+        mark = "both" if firsts else "alike" if hit else "MISSED"
+        print(f"{mark:7}{title} ({at}, {seconds:.1f} s): {told(found)}", flush=True)
+    print(f"pairs: both named in {alike} of {count}, in {both} of them before what stands with `or`")
 
 
 def count_true(part):

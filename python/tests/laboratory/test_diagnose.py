@@ -6,10 +6,13 @@ import unittest
 from fractions import Fraction
 from pathlib import Path
 
-from sdm.diagnosis.fitting import densest
+from sdm.diagnosis.fitting import deepest, densest
+from sdm.diagnosis.joint import Move, added_up, best_with, solved
 from sdm.diagnosis.model import decelerations, journey, limits, triggers
+from sdm.diagnosis.numbers import Number
 from sdm.diagnosis.rules import Reread
 from sdm.diagnosis.scene import MISREADINGS, RuleCase, LookedJourney, Look, Scene, predicted
+from sdm.diagnosis.spans import Span, end_of
 
 from tests.folders import EXAMPLES
 from tests.tool import tool
@@ -77,6 +80,63 @@ class Numbers(unittest.TestCase):
     def test_where_most_intervals_overlap(self):
         self.assertEqual(densest([(10, 1), (10.5, 1), (11, 1), (30, 1), (31, 1)]), 10.5)
         self.assertEqual(densest([(5, 0.25)]), 5)
+        self.assertEqual(deepest([(10, 1), (10.5, 1), (11, 1), (30, 1), (31, 1)]), (10.5, 3))
+
+    def test_the_end_of_a_span(self):
+        """An area that ends anywhere from 1500 to 1620 m makes the same of all rows; so does one from 1700 m on, which
+        is another matter."""
+
+        def is_same(value):
+            return 150_000 <= value <= 162_000 or value >= 170_000
+
+        for value in (150_000, 155_000, 161_990):
+            self.assertAlmostEqual(end_of(Fraction(value), Fraction(300_000), is_same), 162_000, delta=30)
+            self.assertAlmostEqual(end_of(Fraction(value), Fraction(0), is_same), 150_000, delta=30)
+        self.assertEqual(end_of(Fraction(155_000), Fraction(160_000), is_same), 160_000)
+
+    def test_what_a_span_is_told_as(self):
+        """A whole value in the middle where the span is narrow; from where to where when it is wider than a hundredth."""
+        self.assertEqual(Span(Fraction(8115, 10), Fraction(8126, 10)).named, 812)
+        self.assertEqual(Span(Fraction(81_21, 100), Fraction(81_27, 100)).named, Fraction(8_124, 100))
+        self.assertFalse(Span(Fraction(811), Fraction(813)).is_wide)
+        self.assertTrue(Span(Fraction(800), Fraction(820)).is_wide)
+        area = Number(("track", "adhesion", 0, "end"), "end of track.adhesion 1", "cm", 127_928)
+        told = "end of track.adhesion 1 is from 142772 to 207096 cm, not 127928"
+        self.assertEqual(area.between(142_772, 207_096), told)
+
+
+class AtOnce(unittest.TestCase):
+    """Two hypotheses that change the same places; all by hand."""
+
+    def move(self, *by, number=None, rule="one"):
+        return Move(RuleCase((rule,)) if number is None else RuleCase(), number, by)
+
+    def test_two_rules(self):
+        one, other, third = self.move(100, 200, 300), self.move(10, -20, 30, rule="other"), self.move(1, 1, 9, rule="b")
+        pairs = best_with([110.5, 180, 329], [2, 2, 2], [third, one, other], range(3))
+        self.assertEqual((pairs[0].one, pairs[0].other, pairs[0].cells), (one, other, 3))
+
+    def test_a_rule_and_a_number(self):
+        """300, 500 and 900 mm are off; a rule moves by 100, 100 and 300, a number by 40, 80 and 120 for each unit."""
+        number = Number(("train", "service_time"), "service_time", "ds", 30)
+        moved = self.move(40, 80, 120, number=number)
+        for pair in ((self.move(100, 100, 300), moved), (moved, self.move(100, 100, 300))):
+            found = added_up([300, 500, 900], [2, 2, 2], *pair)
+            self.assertEqual((found.one.number, found.other.number, found.cells), (None, number, 3))
+            self.assertAlmostEqual(found.values[1], 5)
+
+    def test_two_numbers(self):
+        """3 of the one's units and -2 of the other's, in all places but one, which something else moves."""
+        one, other = [10, 20, 30, 40, 55, 60], [1, 5, 2, 7, 3, 11]
+        due = [3 * a - 2 * b for a, b in zip(one, other)]
+        due[3] += 5_000
+        t, u, cells = solved(due, [2] * 6, one, other)
+        self.assertEqual((round(t, 6), round(u, 6), cells), (3, -2, 5))
+
+    def test_a_place_that_is_gone_adds_up_to_nothing(self):
+        gone = float("nan")
+        found = added_up([5, 5], [2, 2], self.move(5, gone), self.move(0.5, 0, rule="other"))
+        self.assertEqual(found.cells, 1)
 
 
 class Planted(unittest.TestCase):
@@ -101,6 +161,43 @@ class Planted(unittest.TestCase):
                 _, plant = planted.shown_by([kind], 100)
                 found = count_diagnoses.diagnosed(plant)
                 self.assertTrue(count_diagnoses.is_first(found, plant, kind)[1], count_diagnoses.told(found))
+
+    def test_places_and_lengths_between_which_rules_turn(self):
+        """A value that is near doesn't lead there: the train passes other gradients and other areas."""
+        for path in (("train", "length"), ("track", "adhesion", 0, "end")):
+            kind = next(each for each in kinds.OTHERS if each.number[:1] == (path,))
+            with self.subTest(kind.name):
+                plant, found = self.diagnosed(kind.name, seed=8_000)
+                ((of, value),) = found.explanations[0].cases[0].numbers
+                self.assertEqual((of, len(found.explanations[0].faults)), (path, 1))
+                self.assertAlmostEqual(value, plant.values[path], delta=2)
+
+    def test_what_the_recording_does_not_tell_apart_is_one_finding(self):
+        """This train passes an area without the special brake, and none of reduced adhesion, so that nobody can know
+        whether the other computer reads both wrong; the narrower misreading stands first."""
+        _, found = self.diagnosed("special areas", seed=8_000)
+        (fault,) = found.explanations[0].faults
+        self.assertEqual(fault.cases[0].rules, ("special_brake_areas_end_with_the_front_end",))
+        self.assertIn(("areas_end_with_the_front_end",), [case.rules for case in fault.cases])
+        self.assertIn("\n        or areas of adhesion and without the special brake end", str(found))
+        self.assertIn("doesn't tell apart what stands with `or`", str(found))
+
+    def test_two_faults_in_the_same_places(self):
+        """Neither explains an EBI alone: each moves all of them, the one by a margin, the other by a time."""
+        plant = planted.Plant(100, [])
+        other, _, time = planted.changed(plant.source, ("train", "emergency_time"), lambda _, value: value + 9, None)
+        rows = planted.rows_by(other, named("D_bec by V_bec").texts)
+        plant.recording = planted.recording_of(rows, 100, 1)
+        found = count_diagnoses.diagnosed(plant)
+        cases = found.explanations[0].cases
+        self.assertEqual({name for case in cases for name in case.rules}, set(named("D_bec by V_bec").due))
+        numbers = [number for case in cases for number in case.numbers]
+        self.assertEqual(numbers, [(("train", "emergency_time"), time)])
+
+    def test_a_fault_that_shows_in_one_row(self):
+        """The status isn't held, and after its first row the recording's own status leads on."""
+        plant, found = self.diagnosed("W not held", seed=8_000)
+        self.assertEqual(count_diagnoses.is_first(found, plant, named("W not held")), (True, True))
 
     def test_three_faults_of_one_recording(self):
         """A smaller margin, the gradient of the front cell alone, and a late release."""

@@ -3,6 +3,7 @@ what the runs must be follows from that."""
 import re
 import tempfile
 import unittest
+from dataclasses import replace
 from fractions import Fraction
 from pathlib import Path
 
@@ -93,6 +94,22 @@ class Grouping(unittest.TestCase):
             ["rows 10 to 29: ebi 500 mm early; state follows in 2", "row 40: state is C, in the recording T"],
         )
         self.assertEqual(len(runs(found)), 3)
+
+    def test_a_command_that_is_held_on_is_in_the_run_of_the_places_that_it_came_from(self):
+        """The places are early up to row 29; the brake that they order is held up to row 34. That of row 40 isn't."""
+        found = [place(row, "ebi", -500) for row in range(10, 30)]
+        found += [word(row, "eb", "0", "1") for row in (*range(25, 35), 40)]
+        self.assertEqual(
+            [told(run) for run in runs(found, follows=lambda each: True)],
+            ["rows 10 to 29: ebi 500 mm early; eb follows in 10, up to row 34", "row 40: eb is 0, in the recording 1"],
+        )
+
+    def test_a_ceiling_is_told_rounded(self):
+        """136 km/h, and in the recording 36.388 m/s, which is 130.9968 km/h."""
+        found = [Difference(7, 7, "ceiling", 136, Fraction("36.388") * Fraction("3.6"), None)]
+        found = [replace(each, deviation=abs(each.got - each.due)) for each in found]
+        (run,) = runs(found)
+        self.assertEqual(told(run), "row 7: ceiling 5.003 km/h low")
 
     def test_places_on_one_side_alone(self):
         found = [Difference(row, row, "ebi", 5_000, None, None) for row in (7, 8)]
