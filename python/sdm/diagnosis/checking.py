@@ -8,11 +8,13 @@ from typing import NamedTuple
 from sdm.laboratory.rows import UNITS
 
 from sdm.diagnosis.fitting import Fit, Ground, judged
+from sdm.diagnosis.recorded import evenly
 from sdm.diagnosis.scene import ABSENT, CELLS, MISREADINGS, NUMERIC, Cells, RuleCase, predicted
-from sdm.diagnosis.spans import Span, span_of
 from sdm.diagnosis.search import Explanation, Search, simplicity, together
+from sdm.diagnosis.spans import Span, span_of
 
-MOST_TRIED = 24  # explanations that are checked
+MOST_TRIED = 12  # explanations that are checked
+MOST_SPANNED = 300  # rows by which the values of a number are told apart
 MOST_ALIKE = 12  # hypotheses that may stand for one of an explanation
 
 
@@ -71,10 +73,11 @@ class Checks:
         """An explanation whose numbers are in the middle of the values that make the same of all rows."""
         numbers = {number.path: number for number in self.search.hypotheses.numbers}
         cases, spans = list(alike.best.cases), list[Span | None]()
+        ground = self.ground.part(evenly(range(len(self.ground.cells)), MOST_SPANNED))
         for i, case in enumerate(cases):
             others, span = together(cases[:i] + cases[i + 1 :]), None
             for path, value in case.numbers:
-                span = span_of(self.ground, others, numbers[path], value)
+                span = span_of(ground, others, numbers[path], value)
                 cases[i] = case if span is None else RuleCase((), ((path, span.named),))
             spans.append(span)
         best = self.checked(tuple(cases))

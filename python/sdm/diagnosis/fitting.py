@@ -168,19 +168,30 @@ def plain(value: Fraction) -> NumberValue:
 
 
 def solved(ground: Ground, number: Number, start: NumberValue | None = None) -> Fit | None:
-    """The value on which most rows agree, by what each place asks for, from its change with the value; of a place or a
-    length from some values that lie far off too, since rules turn between them. `start` is one that is near already."""
+    """The value on which most rows agree, by what each place asks for, from its change with the value. `start` is one
+    that is near already."""
     trials, given = Trials(ground, number), Fraction(number.given)
     if start is not None:
         approach(trials, Fraction(start))
     else:
         first = probe(trials, given)
-        if first is not None:
-            secants(trials, given, first)
-        if not trials.is_whole:
-            look_far(trials)
+        if first is None:
+            return None
+        secants(trials, given, first)
+    return chosen_of(trials)
+
+
+def found_far(ground: Ground, number: Number) -> Fit | None:
+    """The best value of a place or a length, from some that lie far off: the rules turn between them."""
+    trials = Trials(ground, number)
+    look_far(trials)
+    return chosen_of(trials)
+
+
+def chosen_of(trials: Trials) -> Fit | None:
+    """The best of the values that were tried and of those near it."""
     best = trials.best()
-    if number.far and best is not None and best[1].gain >= PROMISING * ground.wrong:
+    if trials.number.far and best is not None and best[1].gain >= PROMISING * trials.ground.wrong:
         climb(trials)
     whole(trials)
     best = trials.best()

@@ -14,7 +14,7 @@ NumberValue = int | Fraction | bool
 Changes = tuple[tuple[NumberPath, NumberValue], ...]
 MOST_ENTRIES = 12  # of a list, those nearest to what is looked at
 SHOWN = {"cm": ("m", 100), "ds": ("s", 10), "mm": ("m", 1000), "cm/s²": ("m/s²", 100), "mm/s": ("m/s", 1000)}
-FAR_M = (20, 50, 100, 150, 200, 250, 300, 400, 600)  # by which places are changed, to see what turns
+FAR_M = (30, 75, 150, 200, 250, 300, 450)  # by which places are changed, to see what turns
 RELEASES = tuple(range(0, 65, 5))  # km/h, that are tried
 
 
@@ -38,7 +38,7 @@ class Number:
             return []
         given = Fraction(self.given)
         if self.path[-1] == "length":
-            return [given * part / 20 for part in (4, 6, 8, 10, 11, 12, 13, 14, 15, 16, 17, 18, 22, 24, 28, 32, 40)]
+            return [given * part / 20 for part in (5, 8, 10, 11, 12, 13, 14, 15, 16, 18, 23, 28, 36)]
         by = [sign * metres for metres in FAR_M for sign in (-1, 1)]
         return [given + 100 * m for m in by if self.least <= given + 100 * m <= self.most]
 

@@ -9,7 +9,7 @@ from dataclasses import dataclass
 from functools import partial
 from typing import Any, NamedTuple
 
-from sdm.diagnosis.fitting import Fit, Ground, fit_of, fitted, ground_of, judged, over
+from sdm.diagnosis.fitting import Fit, Ground, fit_of, fitted, found_far, ground_of, judged, over
 from sdm.diagnosis.joint import both, candidates, moves
 from sdm.diagnosis.numbers import Number, NumberValue
 from sdm.diagnosis.scene import MISREADINGS, RuleCase, predicted
@@ -48,10 +48,11 @@ class Explanation(NamedTuple):
         return all(all(row) for row in self.fit.agreeing)
 
 
-def try_one(ground: Ground, hypothesis: Hypothesis) -> Fit | None:
-    """The best that a hypothesis gives on a ground, tried on a few rows first."""
+def try_one(ground: Ground, hypothesis: Hypothesis, is_far: bool = False) -> Fit | None:
+    """The best that a hypothesis gives on a ground, tried on a few rows first; of a number from far values on, where
+    this is asked for."""
     few = ground.part(chosen(ground))
-    found = try_on(few, hypothesis)
+    found = try_far(few, hypothesis) if is_far else try_on(few, hypothesis)
     if found is None or found.explained == 0 or found.gain < 0:
         return None
     if len(few.cells) == len(ground.cells):
@@ -64,6 +65,11 @@ def try_on(ground: Ground, hypothesis: Hypothesis, start: NumberValue | None = N
     if isinstance(hypothesis, str):
         return fit_of(ground, RuleCase((hypothesis,)))
     return fitted(ground, hypothesis, start)
+
+
+def try_far(ground: Ground, hypothesis: Hypothesis) -> Fit | None:
+    """The best of a number from far values on."""
+    return None if isinstance(hypothesis, str) or not hypothesis.far else found_far(ground, hypothesis)
 
 
 def chosen(ground: Ground) -> list[int]:
@@ -88,8 +94,8 @@ def spread(rank: int, count: int) -> int:
     return order[rank]
 
 
-def try_chunk(ground: Ground, hypotheses: Sequence[Hypothesis]) -> list[Fit]:
-    return [fit for each in hypotheses if (fit := try_one(ground, each)) is not None]
+def try_chunk(ground: Ground, is_far: bool, hypotheses: Sequence[Hypothesis]) -> list[Fit]:
+    return [fit for each in hypotheses if (fit := try_one(ground, each, is_far)) is not None]
 
 
 def try_moves(ground: Ground, hypotheses: Sequence[Hypothesis]) -> list[Any]:
@@ -117,12 +123,25 @@ class Search:
         return found
 
     def fits(self, case: RuleCase, title: str) -> list[Fit]:
-        """What each hypothesis gives where a case holds already, the best first."""
+        """What each hypothesis gives where a case holds already, the best first. Where none explains all, numbers are
+        looked for far from their values too."""
         if case not in self.tried:
             ground = self.ground if case == RuleCase() else ground_of(self.ground.scene, case)
-            found = [] if ground is None else self.made(partial(try_chunk, ground), self.hypotheses.all(), title)
+            found = self.on(ground, title) if ground is not None else []
             self.tried[case] = sorted(found, key=worth, reverse=True)
         return self.tried[case]
+
+    def on(self, ground: Ground, title: str) -> list[Fit]:
+        """What each hypothesis gives on a ground."""
+        found: list[Fit] = self.made(partial(try_chunk, ground, False), self.hypotheses.all(), title)
+        if any(fit.wrong == 0 for fit in found):
+            return found
+        far = [number for number in self.hypotheses.numbers if number.far and not number.choices]
+        best = {fit.case.numbers[0][0]: fit for fit in found if fit.case.numbers}
+        for fit in self.made(partial(try_chunk, ground, True), far, title):
+            path = fit.case.numbers[0][0]
+            best[path] = max([fit, *([best[path]] if path in best else [])], key=worth)
+        return [fit for fit in found if not fit.case.numbers] + list(best.values())
 
     def explanations(self) -> list[Explanation]:
         """Explanations, the best first."""
@@ -131,7 +150,11 @@ class Search:
         for count in range(2, MOST_FAULTS + 1):
             if any(each.is_whole for each in found):
                 break
-            longer = [more for each in beam for more in self.longer(each, f"{count} together")]
+            longer = list[Explanation]()
+            for each in beam:
+                longer += self.longer(each, f"{count} together")
+                if any(more.is_whole for more in longer):
+                    break
             if count == 2 and not any(each.is_whole for each in longer):
                 longer += self.at_once()
             found += longer

@@ -10,7 +10,8 @@ def lines_of(found: Diagnosis, most: int) -> list[str]:
     if not found.runs:
         return [f"{found.compared} rows compared; nothing differs by more than the tolerances"]
     rules, numbers = found.tried
-    head = f"{found.compared} rows compared, {len(found.runs)} runs of differences; "
+    runs = "1 run" if len(found.runs) == 1 else f"{len(found.runs)} runs"
+    head = f"{found.compared} rows compared, {runs} of differences; "
     head += f"{rules} misreadings and {numbers} numbers were tried"
     lines = [head, "", *explanation_lines(found), "", "runs:"]
     for i, (text, facts) in enumerate(found.lines[:most]):

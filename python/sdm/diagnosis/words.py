@@ -13,7 +13,7 @@ from pathlib import Path
 from sdm.laboratory.program import Fault, add_program, built, run
 from sdm.laboratory.recording import recording_of
 from sdm.laboratory.rows import RowTexts, rows_of
-from sdm.laboratory.walk import Walk, read
+from sdm.laboratory.walk import modelled, read
 
 from sdm.diagnosis.diagnosing import diagnosis_of
 from sdm.diagnosis.telling import lines_of
@@ -43,7 +43,7 @@ def rows_for(source: bytes, rows: str | None, program: Path | None) -> list[RowT
     except Fault:
         if program is not None:
             raise
-        return rows_of("".join(cycle.row.text() for _, cycle in Walk(source) if cycle is not None))
+        return rows_of(modelled(source).rows)
 
 
 class Shown:

@@ -8,7 +8,7 @@ from pathlib import Path
 from sdm.exact import Commands, Cycle, Event, Number, Outcome, Reading, Refused, Supervisor, open_run
 
 from sdm.laboratory.events import events_of
-from sdm.laboratory.program import Fault
+from sdm.laboratory.program import Fault, Result
 from sdm.laboratory.replay import Replay
 
 
@@ -66,6 +66,13 @@ class Walk:
         else:
             self.replay.take(event)
         return None
+
+
+def modelled(data: bytes) -> Result:
+    """What the model makes of an input, where there is no program to run. Raises Fault where it has no rows."""
+    walk = Walk(data)
+    rows = "".join(cycle.row.text() for _, cycle in walk if cycle is not None)
+    return Result(rows, f"sdm: {walk.fault}\n", 7) if walk.fault else Result(rows, "", 0)
 
 
 def at_rows(data: bytes, numbers: range) -> Iterator[tuple[Supervisor, Cycle, Commands]]:

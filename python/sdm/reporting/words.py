@@ -1,7 +1,7 @@
 """Writes the report of a journey or of a comparison, or an overview of a campaign: tools/report INPUT OUT
 
 INPUT is what `sdm run` reads, `-` for standard input; OUT is a page, a file that ends with .html. The program is run
-over INPUT, or ROWS are taken as what it wrote. With a recording the page compares it with the rows. Where INPUT is a
+over INPUT, or the model where there is none, or ROWS are taken as what it wrote. With a recording the page compares it with the rows. Where INPUT is a
 folder that tools/campaign ran, OUT is an overview, and a page is written beside each of its journeys up to a number.
 It ends with 0 where the page is written, with 1 where it can't be, with 2 for bad words.
 """
@@ -12,7 +12,7 @@ from fractions import Fraction
 from pathlib import Path
 
 from sdm.laboratory.program import Fault, Result, add_program, built, run
-from sdm.laboratory.walk import read, write
+from sdm.laboratory.walk import modelled, read, write
 
 from sdm.reporting.made import ALLOWED, Recorded, Report, Source, program_fact, report_of
 from sdm.reporting.overview import write_overview
@@ -37,7 +37,12 @@ def result_of(words: argparse.Namespace, source: Source) -> tuple[Result, str]:
         rows = source_of(words.rows)
         text = rows.data.decode(errors="replace")
         return Result(text, "", 0), f"handed in: {rows.fact()}"
-    program = built(words.program)
+    try:
+        program = built(words.program)
+    except Fault:
+        if words.program is not None:
+            raise
+        return modelled(source.data), "worked out by the model, which only tests compare with the program"
     return run(program, ["run"], source.data), f"written by {program_fact(program)}"
 
 

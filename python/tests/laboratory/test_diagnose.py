@@ -276,6 +276,18 @@ class Tool(unittest.TestCase):
         self.assertIn("200 rows compared, 4 runs of differences", told)
         self.assertNotRegex(told, r"explains [34] of 4")
 
+    def test_the_misread_recording_of_the_example(self):
+        """misread.csv is of a model whose curves of falls end at the speed of the fall, with noise of 0.3 m. Its rows
+        differ from 15 on, where the fall to 60 km/h comes to be a target."""
+        files = EXAMPLES / "recording"
+        words = ("--rows", files / "rows", "--mapping", files / "mapping.toml", "--mm", 1000, "--jobs", 1)
+        code, told, _ = tool("diagnose", files / "input", files / "misread.csv", *words)
+        self.assertEqual(code, 1)
+        self.assertIn("200 rows compared, 1 run of differences", told)
+        self.assertIn("  1. (a) the foot of the EBD has the target's speed without dV_ebi\n", told)
+        self.assertIn("  rows 15 to 55: ebi ", told)
+        self.assertIn("    explained by: (a) the foot of the EBD has the target's speed without dV_ebi (", told)
+
     def test_times_that_are_a_little_off(self):
         """A command that comes a cycle late isn't a difference within --ds; so it isn't explained either."""
         rows = (EXAMPLES / "interventions" / "rows").read_text().splitlines()

@@ -92,7 +92,7 @@ class Stored(Room):
         made = importlib.util.module_from_spec(importlib.util.spec_from_loader("make_recording", loader))
         loader.exec_module(made)
         made.main(self.room)
-        for name in ("recording.csv", "packets.csv", "input", "rows", "args"):
+        for name in ("recording.csv", "misread.csv", "packets.csv", "input", "rows", "args"):
             self.assertEqual((self.room / name).read_text(), (STORED / name).read_text(), name)
 
     def test_of_python(self):

@@ -10,8 +10,9 @@ from itertools import accumulate
 from pathlib import Path
 from unittest import mock
 
+from sdm.laboratory.program import Fault
 from sdm.laboratory.rows import COLUMNS
-from sdm.reporting import page
+from sdm.reporting import page, words
 from sdm.reporting.journey import READING, steps_of
 
 from tests.folders import EXAMPLES
@@ -191,6 +192,16 @@ class Journeys(InAFolder):
         self.holds(told, f"approach/input, 695 bytes, SHA-256 {digest}<")
         self.assertEqual(rows_in(data_of(told)["journey"]), (EXAMPLES / "approach/rows").read_text())
 
+    def test_without_a_program_the_rows_are_the_model_s(self):
+        with mock.patch.object(words, "built", side_effect=Fault("There is no program")):
+            told = self.made(EXAMPLES / "approach/input")
+            self.holds(told, "worked out by the model, which only tests compare with the program")
+            self.assertEqual(rows_in(data_of(told)["journey"]), (EXAMPLES / "approach/rows").read_text())
+            told = self.made(EXAMPLES / "refused-record/input")
+            fault = (EXAMPLES / "refused-record/err").read_text().strip()
+            self.holds(told, f"The run ended with code 7: {fault}")
+            self.assertIn("There is no program", self.made(EXAMPLES / "approach/input", "--program", "sdm", code=1))
+
     def test_a_journey_that_is_refused(self):
         line = "sdm: bad event 3: time back"
         named = program(self.room, f"cat {EXAMPLES / 'refused-record/rows'}; echo {line} >&2; exit 7")
@@ -244,8 +255,8 @@ class Pages(InAFolder):
         self.assertIn("No row has the time", self.made(source, *own, "--recording", self.later(), code=1))
         with mock.patch.object(page, "D3", Path("/nowhere")):
             self.assertIn("scripts/setup installs it", self.made(source, *own, code=1))
-        for words in ([source, "out.txt"], [source, "out.html", "--mapping", "m"]):
-            self.assertEqual(tool("report", *words)[0], 2)
+        for given in ([source, "out.txt"], [source, "out.html", "--mapping", "m"]):
+            self.assertEqual(tool("report", *given)[0], 2)
 
     def later(self):
         """A recording of other times than those of approach."""
@@ -325,14 +336,14 @@ class Comparisons(InAFolder):
         files = {name: self.room / name for name in ("input", "rows", "recording.csv")}
         for name, data in zip(files, (plant.source, plant.rows.encode(), plant.recording)):
             files[name].write_bytes(data)
-        words = ["--rows", files["rows"], "--recording", files["recording.csv"]]
-        text = self.made(files["input"], *words, "--diagnose")
+        named = ["--rows", files["rows"], "--recording", files["recording.csv"]]
+        text = self.made(files["input"], *named, "--diagnose")
         self.holds(
             text, '<pre id="diagnosis">', "1. (a) the greatest gradient under the train counts, not the least one"
         )
         runs = data_of(text)["comparison"]["runs"]
         self.assertTrue(all("explained by: (a) the greatest gradient" in run["explained"] for run in runs))
-        text = self.made(files["input"], *words)
+        text = self.made(files["input"], *named)
         self.assertFalse("What explains the differences" in text)
         self.assertEqual({run["explained"] for run in data_of(text)["comparison"]["runs"]}, {""})
         self.assertEqual(tool("report", files["input"], "out.html", "--diagnose")[0], 2)
