@@ -37,6 +37,8 @@ COMPARED = [
     "2",
     "--ds",
     "5",
+    "--most",
+    "2",
 ]  # what docs/LABORATORY.md shows a run of
 ELSEWHERE = re.compile(r"^[a-z][a-z0-9+.-]*:", re.I)
 

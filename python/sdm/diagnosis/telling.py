@@ -30,7 +30,7 @@ def explanation_lines(found: Diagnosis) -> list[str]:
             lines += fault_lines(f"{f'  {n}.' if i == 0 else '    '} {letter(i)}", fault)
         lines.append(f"     {worth_text(told, found.differing)}")
     if any(len(fault.cases) > 1 for told in found.explanations for fault in told.faults):
-        lines.append("  This recording doesn't tell apart what stands with `or`: it makes the same of all these rows.")
+        lines.append("  What stands with `or` makes the same of all these rows: this recording can't say which it is.")
     return lines
 
 

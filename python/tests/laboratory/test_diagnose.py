@@ -179,8 +179,8 @@ class Planted(unittest.TestCase):
         (fault,) = found.explanations[0].faults
         self.assertEqual(fault.cases[0].rules, ("special_brake_areas_end_with_the_front_end",))
         self.assertIn(("areas_end_with_the_front_end",), [case.rules for case in fault.cases])
-        self.assertIn("\n        or areas of adhesion and without the special brake end", str(found))
-        self.assertIn("doesn't tell apart what stands with `or`", str(found))
+        self.assertIn("\n      or areas of adhesion and without the special brake end", str(found))
+        self.assertIn("this recording can't say which it is", str(found))
 
     def test_two_faults_in_the_same_places(self):
         """Neither explains an EBI alone: each moves all of them, the one by a margin, the other by a time."""
