@@ -10,8 +10,8 @@ from sdm.laboratory.rows import UNITS
 from sdm.diagnosis.fitting import Fit, Ground, judged
 from sdm.diagnosis.recorded import evenly
 from sdm.diagnosis.scene import ABSENT, CELLS, MISREADINGS, NUMERIC, Cells, RuleCase, predicted
-from sdm.diagnosis.search import Explanation, Search, simplicity, together
-from sdm.diagnosis.spans import Span, span_of
+from sdm.diagnosis.search import FoundExplanation, Search, simplicity, together
+from sdm.diagnosis.spans import ValueSpan, span_of
 
 MOST_TRIED = 12  # explanations that are checked
 MOST_SPANNED = 300  # rows by which the values of a number are told apart
@@ -35,13 +35,13 @@ class Checked(NamedTuple):
 
 
 @dataclass(frozen=True)
-class Alike:
+class SameOnRows:
     """An explanation with, for each of its hypotheses, others that make the same of all rows; and of a number between
     which values it does so."""
 
     best: Checked
     instead: tuple[tuple[RuleCase, ...], ...]
-    spans: tuple[Span | None, ...]
+    spans: tuple[ValueSpan | None, ...]
 
 
 class Checks:
@@ -58,7 +58,7 @@ class Checks:
         fit = judged(self.ground, together(cases), cells)
         return Checked(cases, cells, fit) if fit.gain > 0 else None
 
-    def of(self, found: Iterable[Explanation]) -> list[Alike]:
+    def of(self, found: Iterable[FoundExplanation]) -> list[SameOnRows]:
         """Explanations, the best first, each once."""
         tried = [self.checked(each.cases) for each in list(found)[:MOST_TRIED]]
         ranked = sorted((each for each in tried if each is not None), key=lambda each: each.order, reverse=True)
@@ -69,10 +69,10 @@ class Checks:
         told = self.grouped(ranked)
         return [self.spanned(told[0]), *told[1:]]
 
-    def spanned(self, alike: Alike) -> Alike:
+    def spanned(self, alike: SameOnRows) -> SameOnRows:
         """An explanation whose numbers are in the middle of the values that make the same of all rows."""
         numbers = {number.path: number for number in self.search.hypotheses.numbers}
-        cases, spans = list(alike.best.cases), list[Span | None]()
+        cases, spans = list(alike.best.cases), list[ValueSpan | None]()
         ground = self.ground.part(evenly(range(len(self.ground.cells)), MOST_SPANNED))
         for i, case in enumerate(cases):
             others, span = together(cases[:i] + cases[i + 1 :]), None
@@ -83,17 +83,17 @@ class Checks:
         best = self.checked(tuple(cases))
         if best is None or best.fit.agreeing != alike.best.fit.agreeing:
             best, spans = alike.best, [None] * len(cases)
-        return Alike(best, alike.instead, tuple(spans))
+        return SameOnRows(best, alike.instead, tuple(spans))
 
     def best_of(self, first: Checked) -> tuple[Checked, list[Checked]]:
         """The best of an explanation and of those that have another hypothesis in the place of one of its own; and all
         of these."""
-        explanation = Explanation(first.cases, self.search.worth_of(first.cases))
+        explanation = FoundExplanation(first.cases, self.search.worth_of(first.cases))
         cases = [each.cases for i in range(len(first.cases)) for each in self.search.instead(explanation, i)]
         found = [each for other in dict.fromkeys(cases) if (each := self.checked(other)) is not None]
         return max([first, *found], key=lambda each: each.order), found
 
-    def grouped(self, ranked: Sequence[Checked]) -> list[Alike]:
+    def grouped(self, ranked: Sequence[Checked]) -> list[SameOnRows]:
         """Explanations without those that another one stands for."""
         left = list(ranked)
         found = []
@@ -101,7 +101,7 @@ class Checks:
             best = left[0]
             same = [each for each in left if self.is_same(best, each)]
             instead = tuple(self.instead_of(best, i, same) for i in range(len(best.cases)))
-            found.append(Alike(best, instead, (None,) * len(best.cases)))
+            found.append(SameOnRows(best, instead, (None,) * len(best.cases)))
             left = [each for each in left if each not in same or not is_told(each, best, instead)]
             left = left[1:] if left and left[0] is best else left
         return found

@@ -8,14 +8,14 @@ from sdm.laboratory.comparison import Allowed
 from sdm.laboratory.recording import RecordedLine
 from sdm.laboratory.rows import RowTexts
 
-from sdm.diagnosis.checking import Alike, Checks
+from sdm.diagnosis.checking import SameOnRows, Checks
 from sdm.diagnosis.fitting import Ground, deviation_mm, ground_of
 from sdm.diagnosis.numbers import Number, NumberPath
 from sdm.diagnosis.recorded import RecordedScenes, evenly
 from sdm.diagnosis.runs import Run
 from sdm.diagnosis.scene import MISREADINGS, NUMERIC, RuleCase, Scene, predicted
 from sdm.diagnosis.search import Progress, Search, hypotheses_of, processors, together
-from sdm.diagnosis.spans import Span
+from sdm.diagnosis.spans import ValueSpan
 
 MOST_TOLD = 5  # explanations
 OF_A_RUN = 60  # rows on which a run is judged
@@ -28,7 +28,7 @@ class ToldFault:
 
     sentences: tuple[str, ...]
     cases: tuple[RuleCase, ...]
-    span: Span | None = None
+    span: ValueSpan | None = None
 
     @property
     def sentence(self) -> str:
@@ -132,7 +132,7 @@ def grounded(scene: Scene) -> Ground:
     return ground
 
 
-def told_of(alike: Alike, numbers: dict[NumberPath, Number]) -> ToldExplanation:
+def told_of(alike: SameOnRows, numbers: dict[NumberPath, Number]) -> ToldExplanation:
     """An explanation in words."""
     best, fit = alike.best, alike.best.fit
     faults = [
@@ -146,7 +146,7 @@ def told_of(alike: Alike, numbers: dict[NumberPath, Number]) -> ToldExplanation:
     return ToldExplanation(tuple(faults), fit.rows, fit.rows_broken, fit.left_mm)
 
 
-def sentence_of(case: RuleCase, numbers: dict[NumberPath, Number], span: Span | None = None) -> str:
+def sentence_of(case: RuleCase, numbers: dict[NumberPath, Number], span: ValueSpan | None = None) -> str:
     """A hypothesis in a sentence."""
     parts = [MISREADINGS[name].told for name in case.rules]
     for path, value in case.numbers:

@@ -36,7 +36,7 @@ class Hypotheses:
         return [*self.rules, *self.numbers]
 
 
-class Explanation(NamedTuple):
+class FoundExplanation(NamedTuple):
     """An explanation: its hypotheses, and what they are worth together on the ground of the profile."""
 
     cases: tuple[RuleCase, ...]
@@ -143,14 +143,14 @@ class Search:
             best[path] = max([fit, *([best[path]] if path in best else [])], key=worth)
         return [fit for fit in found if not fit.case.numbers] + list(best.values())
 
-    def explanations(self) -> list[Explanation]:
+    def explanations(self) -> list[FoundExplanation]:
         """Explanations, the best first."""
         found = self.longer(None, "alone")
         beam = distinct(found)
         for count in range(2, MOST_FAULTS + 1):
             if any(each.is_whole for each in found):
                 break
-            longer = list[Explanation]()
+            longer = list[FoundExplanation]()
             for each in beam:
                 longer += self.longer(each, f"{count} together")
                 if any(more.is_whole for more in longer):
@@ -164,14 +164,14 @@ class Search:
                 found.append(beam[0])
         return sorted(found, key=total, reverse=True)
 
-    def longer(self, explanation: Explanation | None, title: str) -> list[Explanation]:
+    def longer(self, explanation: FoundExplanation | None, title: str) -> list[FoundExplanation]:
         """An explanation with one hypothesis more."""
         cases = () if explanation is None else explanation.cases
         before = [] if explanation is None else [explanation.fit]
         fits = self.fits(together(cases), title)
         left = self.ground.wrong if explanation is None else explanation.fit.wrong
         told = [fit for fit in fits if fit.gain >= least(left, fit.case) and adds(cases, fit.case)]
-        return [Explanation((*cases, fit.case), over(self.ground, [*before, fit])) for fit in told]
+        return [FoundExplanation((*cases, fit.case), over(self.ground, [*before, fit])) for fit in told]
 
     def worth_of(self, cases: tuple[RuleCase, ...]) -> Fit:
         """What hypotheses are worth together."""
@@ -179,12 +179,12 @@ class Search:
         assert cells is not None, "they were found on these rows"
         return judged(self.ground, together(cases), cells)
 
-    def at_once(self) -> list[Explanation]:
+    def at_once(self) -> list[FoundExplanation]:
         """Two hypotheses that change the same cells, so that neither explains them alone."""
         moved = self.made(partial(try_moves, self.ground), self.hypotheses.all(), "two at once")
         pairs = candidates(self.ground, moved, self.made)
         found = self.made(partial(both, self.ground), pairs, "two at once")
-        made = [Explanation(tuple(fit.case for fit in fits), over(self.ground, fits)) for fits in found]
+        made = [FoundExplanation(tuple(fit.case for fit in fits), over(self.ground, fits)) for fits in found]
         return [
             each
             for each in made
@@ -192,7 +192,7 @@ class Search:
             and each.fit.gain >= sum(least(self.ground.wrong, case) for case in each.cases)
         ]
 
-    def again(self, explanation: Explanation) -> Explanation:
+    def again(self, explanation: FoundExplanation) -> FoundExplanation:
         """An explanation whose hypotheses are looked for again, each beside the others."""
         for _ in range(MOST_ROUNDS):
             before = explanation
@@ -203,7 +203,7 @@ class Search:
                 break
         return explanation
 
-    def instead(self, explanation: Explanation, i: int) -> list[Explanation]:
+    def instead(self, explanation: FoundExplanation, i: int) -> list[FoundExplanation]:
         """What explains as much and more with another hypothesis in the i-th one's place."""
         others = explanation.cases[:i] + explanation.cases[i + 1 :]
         ground = ground_of(self.ground.scene, together(others))
@@ -213,7 +213,7 @@ class Search:
         fits = [fit for fit in self.fits(together(others), "again") if adds(others, fit.case)]
         found = [(fit, over(self.ground, [held, fit])) for fit in fits]
         return [
-            Explanation((*others[:i], fit.case, *others[i:]), of)
+            FoundExplanation((*others[:i], fit.case, *others[i:]), of)
             for fit, of in found
             if of.gain >= explanation.fit.gain
         ]
@@ -242,7 +242,7 @@ def simplicity(case: RuleCase) -> int:
     return max(kinds, default=0)
 
 
-def total(explanation: Explanation) -> tuple[float, ...]:
+def total(explanation: FoundExplanation) -> tuple[float, ...]:
     """The order of explanations: by what they gain, less a little for each hypothesis, then as hypotheses alone."""
     free = sum(simplicity(case) for case in explanation.cases)
     return explanation.fit.gain - 2 * (len(explanation.cases) - 1), -free, -float(explanation.fit.left_mm)
@@ -256,9 +256,9 @@ def together(cases: Sequence[RuleCase]) -> RuleCase:
     return case
 
 
-def distinct(explanations: Sequence[Explanation]) -> list[Explanation]:
+def distinct(explanations: Sequence[FoundExplanation]) -> list[FoundExplanation]:
     """The first explanations that leave different cells, as long as they are worth enough."""
-    found: dict[object, Explanation] = {}
+    found: dict[object, FoundExplanation] = {}
     for each in explanations:
         if total(each)[0] >= NEAR * total(explanations[0])[0]:
             found.setdefault(each.fit.agreeing, each)

@@ -15,7 +15,7 @@ MOST = Fraction(1, 2)  # of a value: how far an end of its span is looked for, a
 WIDE = Fraction(1, 100)  # of a value: a span that is wider is told, else the value in its middle
 
 
-class Span(NamedTuple):
+class ValueSpan(NamedTuple):
     """The least and the greatest value of a number."""
 
     least: Fraction
@@ -36,7 +36,7 @@ class Span(NamedTuple):
         return whole if self.least <= whole <= self.greatest else self.middle
 
 
-def span_of(ground: Ground, others: RuleCase, number: Number, value: NumberValue) -> Span | None:
+def span_of(ground: Ground, others: RuleCase, number: Number, value: NumberValue) -> ValueSpan | None:
     """The span of a number beside what else holds; None of a number that is no matter of more or less."""
     if number.choices:
         return None
@@ -51,7 +51,7 @@ def span_of(ground: Ground, others: RuleCase, number: Number, value: NumberValue
     held, given = Fraction(value), Fraction(number.given)
     low = max(Fraction(number.least), held - MOST * abs(held), *([given] if given < held else []))
     high = min(Fraction(number.most), held + MOST * abs(held), *([given] if given > held else []))
-    return Span(end_of(held, low, is_same), end_of(held, high, is_same))
+    return ValueSpan(end_of(held, low, is_same), end_of(held, high, is_same))
 
 
 def end_of(value: Fraction, last: Fraction, is_same: Callable[[Fraction], bool]) -> Fraction:

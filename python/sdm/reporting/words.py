@@ -1,9 +1,9 @@
 """Writes the report of a journey or of a comparison, or an overview of a campaign: tools/report INPUT OUT
 
 INPUT is what `sdm run` reads, `-` for standard input; OUT is a page, a file that ends with .html. The program is run
-over INPUT, or the model where there is none, or ROWS are taken as what it wrote. With a recording the page compares it with the rows. Where INPUT is a
-folder that tools/campaign ran, OUT is an overview, and a page is written beside each of its journeys up to a number.
-It ends with 0 where the page is written, with 1 where it can't be, with 2 for bad words.
+over INPUT, or the model where there is none, or ROWS are taken as what it wrote. With a recording the page compares it
+with the rows. Where INPUT is a folder that tools/campaign ran, OUT is an overview, and a page is written beside each of
+its journeys up to a number. It ends with 0 where the page is written, with 1 where it can't be, with 2 for bad words.
 """
 
 import argparse

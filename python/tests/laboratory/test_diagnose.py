@@ -12,7 +12,7 @@ from sdm.diagnosis.model import decelerations, journey, limits, triggers
 from sdm.diagnosis.numbers import Number
 from sdm.diagnosis.rules import Reread
 from sdm.diagnosis.scene import MISREADINGS, RuleCase, LookedJourney, Look, Scene, predicted
-from sdm.diagnosis.spans import Span, end_of
+from sdm.diagnosis.spans import ValueSpan, end_of
 
 from tests.folders import EXAMPLES
 from tests.tool import tool
@@ -95,11 +95,11 @@ class Numbers(unittest.TestCase):
         self.assertEqual(end_of(Fraction(155_000), Fraction(160_000), is_same), 160_000)
 
     def test_what_a_span_is_told_as(self):
-        """A whole value in the middle where the span is narrow; from where to where when it is wider than a hundredth."""
-        self.assertEqual(Span(Fraction(8115, 10), Fraction(8126, 10)).named, 812)
-        self.assertEqual(Span(Fraction(81_21, 100), Fraction(81_27, 100)).named, Fraction(8_124, 100))
-        self.assertFalse(Span(Fraction(811), Fraction(813)).is_wide)
-        self.assertTrue(Span(Fraction(800), Fraction(820)).is_wide)
+        """A whole value in the middle of a narrow span; from where to where of one wider than a hundredth."""
+        self.assertEqual(ValueSpan(Fraction(8115, 10), Fraction(8126, 10)).named, 812)
+        self.assertEqual(ValueSpan(Fraction(81_21, 100), Fraction(81_27, 100)).named, Fraction(8_124, 100))
+        self.assertFalse(ValueSpan(Fraction(811), Fraction(813)).is_wide)
+        self.assertTrue(ValueSpan(Fraction(800), Fraction(820)).is_wide)
         area = Number(("track", "adhesion", 0, "end"), "end of track.adhesion 1", "cm", 127_928)
         told = "end of track.adhesion 1 is from 142772 to 207096 cm, not 127928"
         self.assertEqual(area.between(142_772, 207_096), told)
