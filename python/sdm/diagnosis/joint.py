@@ -23,7 +23,7 @@ ROUNDS = 5  # in which two numbers are solved for
 STEP = 1  # by which a number is changed to see what it moves
 WHOLE = 0.2  # how near a whole number a value is taken for it
 Spot = tuple[int, int]  # a row and a cell of it
-Made = Callable[[Callable[[Any], list[Any]], Sequence[Any], str], list[Any]]
+Mapped = Callable[[Callable[[Any], list[Any]], Sequence[Any], str], list[Any]]
 
 
 class Move(NamedTuple):
@@ -90,7 +90,7 @@ def moves(ground: Ground, hypothesis: str | Number) -> list[Move]:
     return [Move(case, None, by) for case, by in made if by is not None]
 
 
-def candidates(ground: Ground, found: Sequence[Move], made: Made) -> list[Pair]:
+def candidates(ground: Ground, found: Sequence[Move], made: Mapped) -> list[Pair]:
     """The pairs that add up best."""
     where = spots(ground)
     firsts = {each.by: each for each in reversed(found)}

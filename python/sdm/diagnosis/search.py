@@ -220,7 +220,7 @@ class Search:
 
 
 def least(wrong: int, case: RuleCase) -> float:
-    """What a hypothesis must gain of the cells that differ: two at least, but for a rule where there is but one."""
+    """What a hypothesis must gain of the cells that differ: two at least, except for a rule with one alone."""
     return max(2 if case.numbers else min(2, wrong), LEAST * wrong)
 
 
