@@ -75,7 +75,7 @@ CHECKS: dict[Group, list[Part]] = {
         Part("tour", "product.tour", "the commands of docs/TOUR.md write what the page shows"),
         Part("upgrade", "product.upgrade", "`upgrade` keeps data and rows"),
         Part("worked", "product.worked", "runs that were worked by hand"),
-        Part("trials", "tries.definitions", "wrong definitions are refused by the cases that their files name: a sample"),
+        Part("trials", "tries.definitions", "a sample of wrong definitions: the cases that they name refuse them"),
         Part("examples", "product.examples", "the program over each folder of examples/"),
     ],
     "elsewhere": [

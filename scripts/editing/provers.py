@@ -69,7 +69,8 @@ def library(crate: str) -> Path:
 def words(crate: str, sources: dict[str, Path], used: list[str] | None = None) -> list[str]:
     """The words of a check of a crate in its folder, where some crates below come as sources, by their folders, and not
     as libraries; of the libraries of crates.txt it may have only those that are used."""
-    handed = [*(libraries()[crate] if used is None else used), *(name for each in sources for name in libraries()[each])]
+    own = libraries()[crate] if used is None else used
+    handed = [*own, *(name for each in sources for name in libraries()[each])]
     found = [str(kit() / "bin" / "rattle"), "check", "--crate-name", crate]
     found += ["src/main.rt" if (CRATES / crate / "src" / "main.rt").exists() else "src/lib.rt"]
     for name in dict.fromkeys(["std", *(["core"] if sources else []), *handed]):
