@@ -1,11 +1,10 @@
 -- A call does to the supervisor what its record does in the ride, and a row in C's codes asks for the brake where the
 -- row of the definitions does. So each step goes on as the ride, and each list of them.
-use Rattle.std.proofs.Common.{◌≡◌, ◌⊎◌, ◌∙◌, ap, refl, sym, subst, ℕ, Bool, true, false, List, [], ◌∷◌, IsTrue, inl, inr, not, arith}
+use Rattle.std.proofs.Common.{◌≡◌, ◌⊎◌, ◌∙◌, ap, refl, sym, subst, ℕ, Bool, true, false, List, [], ◌∷◌, inl, inr, not, arith}
 use Rattle.std.proofs.lemmas.Bool.Decides.{eqb_tells}
-use Rattle.std.proofs.lemmas.Bool.{true≢false}
 use Rattle.std.proofs.lemmas.Option.{none-some, same_Some}
 use Rattle.std.proofs.lemmas.List.Elements.{All-nil, All-cons}
-use Rattle.std.specs.Prelude.{All, Option, Some, None, Result, Ok, Err, ◌==◌, ◌&&◌, ◌||◌, map, suc, if◌then◌else◌}
+use Rattle.std.specs.Prelude.{All, Option, Some, None, Ok, ◌==◌, ◌&&◌, ◌||◌, map, suc, if◌then◌else◌}
 use Rattle.sdm_num.specs.Readings.{OdometerReading}
 use Rattle.sdm_rules.specs.declared.commands.State.{State}
 use Rattle.sdm_rules.specs.declared.commands.State.TheVariants.{C, T, R}
@@ -18,7 +17,7 @@ use Rattle.sdm_rules.specs.Records.{step, time_cause, time_fault, unless}
 use Rattle.sdm_rules.specs.Supervision.{Supervision, after_reading, row_of}
 use Rattle.sdm_rules.specs.TakeOver.{change, take_over_fault, taken_over, unless_refused}
 use Rattle.sdm_supervisor.specs.TakeOvers.{is_fresh}
-use Rattle.sdm_ride.specs.Happenings.{Happening, Record, Unread, Overdue, Change, Tick}
+use Rattle.sdm_ride.specs.Happenings.{Happening, Record, Unread, Overdue, Change}
 use Rattle.sdm_ride.specs.Moments.{by_rows, is_ordered, is_release}
 use Rattle.sdm_ride.specs.Orders.{Computer, GoesOn, changed_or, judged_in, reading_if, supervision_after}
 use Rattle.sdm_ride.specs.RideLaws.{EndsBy}
@@ -30,9 +29,9 @@ use Rattle.sdm_c.specs.declared.handle.Handle.{Handle}
 use Rattle.sdm_c.specs.declared.structs.ReadingC.{ReadingC}
 use Rattle.sdm_c.specs.Codes.{flag, row_in_c, state_code}
 use Rattle.sdm_c.specs.Numbers.{is_identity, is_reading, is_restriction, reading_from, restriction_from}
-use Rattle.sdm_c.specs.CallLists.{Answer, Asked, IsMade, Made, after_change, after_record, answer, answer_in, answer_of}
+use Rattle.sdm_c.specs.CallLists.{Answer, after_change, after_record, answer, answer_in, answer_of}
 use Rattle.sdm_c.specs.CallLists.{left, record_of, supervisor_in, told}
-use Rattle.sdm_c.specs.CallRides.{AreSteps, CallingComputer, CallsOnce, ChangesHandle, IsStep, LawOfCallOrders}
+use Rattle.sdm_c.specs.CallRides.{CallingComputer, CallsOnce, ChangesHandle, IsStep, LawOfCallOrders}
 use Rattle.sdm_c.specs.CallRides.{LawOfCallPlaces, LawOfCallRides, Waits, asks_brake, change_to, happening_of, happening_with}
 use Rattle.sdm_c.specs.CallRides.{judges, seen}
 use Rattle.sdm_c.specs.Statuses.{IsOpen, change_status, done, in_range, not_fresh, take_over_answer, time_status}

@@ -1,5 +1,5 @@
 -- Which fault the line of a refused data part names: the first one, not any.
-use Rattle.std.proofs.Common.{◌≡◌, ◌≢◌, ◌∙◌, ap, subst, List, ℕ, codes}
+use Rattle.std.proofs.Common.{◌≡◌, ap, subst, List, ℕ}
 use Rattle.sdm_rules.specs.declared.faults.OpenFault.{OpenFault}
 use Rattle.sdm_report.specs.declared.outcome.InputFault.{InputFault}
 use Rattle.sdm_report.specs.declared.outcome.Outcome.TheVariants as outcomes

@@ -11,7 +11,7 @@ use Rattle.sdm_formats.specs.Flat.{Output}
 use Rattle.sdm_formats.specs.Input.{Done, End}
 use Rattle.sdm_certify.specs.declared.answers.Answer.{Answer}
 use Rattle.sdm_certify.specs.Checker.{AreAnswers, IsAnswerTo, IsChecked, IsCheckedFrom, IsLastOf}
-use Rattle.sdm_certify.specs.Lines.{Certified, LinesLeft, Read, lines_in, map_in, next_claim}
+use Rattle.sdm_certify.specs.Lines.{Certified, LinesLeft, Read}
 use Rattle.sdm_certify.specs.ReadBack.{AreHeld, IsHeldText}
 use Rattle.sdm_certify.proofs.DecidedSlopes.{made_one}
 use Rattle.sdm_curve.specs.Maps.{MapData}

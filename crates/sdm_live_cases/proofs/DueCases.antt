@@ -1,7 +1,7 @@
 -- What is due of an input, what a prompt run and each end say of it: whatever the data part is, of one record that no
 -- data accept, `go`.
-use Rattle.std.proofs.Common.{◌≡◌, ◌∙◌, ◌+◌, ◌<◌, ◌≤◌, ◌==◌, sym, ap, subst, refl, ℕ, Bool, List, [], ◌∷◌, ◌++◌, inl, inr, arith}
-use Rattle.std.proofs.Common.{append-nil, codes, drop, take, length, false, true, Option, Some, None}
+use Rattle.std.proofs.Common.{◌≡◌, ◌∙◌, ◌<◌, ◌≤◌, ◌==◌, sym, ap, subst, refl, ℕ, Bool, List, [], ◌∷◌, ◌++◌, inl, inr, arith}
+use Rattle.std.proofs.Common.{append-nil, codes, drop, length, false, Option, Some, None}
 use Rattle.std.proofs.lemmas.Bool.{false≢true}
 use Rattle.std.specs.List.{AllByRecursion}
 use Rattle.csv.specs.Reading.{strip_bom}
@@ -11,7 +11,6 @@ use Rattle.sdm_formats.specs.Forms.{event_of}
 use Rattle.sdm_formats.specs.Input.{most_bytes}
 use Rattle.sdm_report.specs.declared.outcome.Outcome.TheVariants.{Done, ReadFault, TooLong, WriteFault}
 use Rattle.sdm_data.specs.Division.{divide}
-use Rattle.sdm_live.specs.Answers.{most_asks}
 use Rattle.sdm_live.specs.Exchanges.{Gave, History, asked_at, came, is_given_on, sent}
 use Rattle.sdm_live.specs.Taken.{Begins}
 use Rattle.sdm_live_records.specs.Live.{live_rules, refused_text}

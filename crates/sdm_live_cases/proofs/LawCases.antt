@@ -1,5 +1,5 @@
 -- What the laws of live runs say of texts that have bytes, drawn from their statements alone.
-use Rattle.std.proofs.Common.{◌≡◌, ◌∙◌, refl, List, ℕ, [], ◌∷◌, codes, None}
+use Rattle.std.proofs.Common.{◌≡◌, refl, List, ℕ, [], ◌∷◌, codes, None}
 use Rattle.csv.specs.Reading.{strip_bom}
 use Rattle.sdm_rules.specs.Supervision.{Supervision}
 use Rattle.sdm_formats.specs.FaultLines.{cause_text, form_text}

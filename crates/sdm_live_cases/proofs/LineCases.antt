@@ -1,5 +1,5 @@
 -- Lines, and the fields of one, at texts worked by hand.
-use Rattle.std.proofs.Common.{◌≡◌, ℕ, List, [], ◌∷◌, ◌++◌, codes, refl}
+use Rattle.std.proofs.Common.{◌≡◌, [], ◌∷◌, ◌++◌, codes, refl}
 use Rattle.csv.specs.Reading.{strip_bom}
 use Rattle.sdm_live.specs.ByLines.{lines_of}
 use Rattle.sdm_live_records.specs.Fields.{line_fields}

@@ -1,7 +1,7 @@
 -- What a live run has of `run`: its rows are the text of `run` where that accepts the bytes, and what `run` promises of
 -- rows holds of each of them.
-use Rattle.std.proofs.Common.{◌≡◌, ◌∙◌, ◌==◌, sym, ap, subst, refl, ℕ, Bool, List, [], ◌∷◌, ◌++◌, inl, inr}
-use Rattle.std.proofs.Common.{codes, drop, take, false, true, Option, Some, None}
+use Rattle.std.proofs.Common.{◌≡◌, ◌∙◌, ◌==◌, sym, ap, subst, ℕ, Bool, List, [], ◌∷◌, inl, inr}
+use Rattle.std.proofs.Common.{codes, drop, take, false, Option, Some, None}
 use Rattle.std.proofs.lemmas.Bool.{false≢true}
 use Rattle.sdm_rules.specs.Headline.{IsRecordSafe}
 use Rattle.sdm_rules.specs.Records.{Turn}
@@ -14,7 +14,7 @@ use Rattle.sdm_opening.specs.Openings.{IsOpeningOf}
 use Rattle.sdm_run.specs.declared.words.Command.TheVariants.{Run}
 use Rattle.sdm_run.specs.Commands.{IsOutputOf}
 use Rattle.sdm_live.specs.ByLines.{lines_of}
-use Rattle.sdm_live.specs.Exchanges.{Gave, Given_on, History, Took, came, sent}
+use Rattle.sdm_live.specs.Exchanges.{History, came, sent}
 use Rattle.sdm_live.specs.Taken.{Begins}
 use Rattle.sdm_live_laws.specs.SameRows.{rows_in}
 use Rattle.sdm_live_laws.specs.Turns.{answers_text, line_answers, live_turns}

@@ -1,7 +1,7 @@
 -- Where `run` accepts the bytes, its data part opens the state from which the live run answers, so the law of the same
 -- text speaks of both.
-use Rattle.std.proofs.Common.{◌≡◌, ◌∙◌, ◌⊎◌, sym, ap, subst, refl, ℕ, List, take, drop, inl, inr, length}
-use Rattle.std.proofs.Common.{Option, Some, None, Result, Ok, Err, Bool, true, false, nat_lt}
+use Rattle.std.proofs.Common.{◌≡◌, ◌∙◌, sym, ap, subst, refl, ℕ, List, drop, inl, inr, length}
+use Rattle.std.proofs.Common.{Option, Some, None, Result, Ok, Bool, true, false, nat_lt}
 use Rattle.std.specs.Prelude.{MatchBool, []}
 use Rattle.toml.specs.Data.{Members}
 use Rattle.sdm_rules.specs.declared.authorities.Authority.{Authority}
@@ -18,7 +18,6 @@ use Rattle.sdm_report.specs.declared.outcome.Outcome.{Outcome}
 use Rattle.sdm_report.specs.declared.outcome.Outcome.TheVariants as outcomes
 use Rattle.sdm_data.specs.Division.{divide}
 use Rattle.sdm_events.specs.Journey.{records_of}
-use Rattle.sdm_opening.specs.Openings.{IsOpeningOf}
 use Rattle.sdm_run.specs.declared.words.Command.TheVariants.{Run}
 use Rattle.sdm_run.specs.Commands.{IsOutputOf}
 use Rattle.sdm_run.specs.Journeys.{run_reader}

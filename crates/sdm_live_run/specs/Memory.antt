@@ -1,5 +1,5 @@
 -- What contracts see of a peer over memory (own).
-use Rattle.std.specs.Prelude.{ℕ, Bool, List, [], ◌∷◌, Option, Some, None, if◌then◌else◌}
+use Rattle.std.specs.Prelude.{Bool, List, [], ◌∷◌, Option, Some, None, if◌then◌else◌}
 use Rattle.sdm_live_run.specs.declared.memory.Call.{Call}
 use Rattle.sdm_live_run.specs.declared.memory.Call.TheVariants as calls
 use Rattle.sdm_live.specs.Exchanges.{Exchange, Gave, Took, Given_on, History}

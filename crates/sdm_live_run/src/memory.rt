@@ -6,7 +6,7 @@ ghost use Rattle.std.specs.Io.{ReadsAtMost, WritesAtMost};
 ghost use Rattle.sdm_io.specs.Causes.{HasCause};
 ghost use Rattle.sdm_live.specs.Exchanges.{Along, Gave, Given_on, Told, Took};
 ghost use Rattle.sdm_live_run.specs.Live.{IsAnsweredLive, IsPromptLive};
-ghost use Rattle.sdm_live_run.specs.Memory.{history_of};
+ghost use Rattle.sdm_live_run.specs.Memory.{exchange_of, history_of};
 ghost use Rattle.sdm_live_run.specs.SameRun.{IsRunLive};
 
 use crate::live_run::sdm_live_main;
@@ -53,44 +53,13 @@ impl<'a> MemoryPeer<'a> {
     }
 }
 
-/// Logs that these bytes were given.
+/// Logs a call. (own)
 #[tactic(auto, using(crate::proofs::Logging::noted, crate::proofs::Logging::lost_now))]
-fn note_gave(alloc: Global, log: &mut Vec<Call>, lost: &mut bool, bytes: &[u8])
+fn note(log: &mut Vec<Call>, lost: &mut bool, call: Call)
     ensures { Along (history_of lost.old log.old.items) (history_of lost.new log.new.items)
-        (λ h k. k ≡ Gave bytes.now ∷ h) }
+        (λ h k. k ≡ exchange_of call ∷ h) }
 {
-    let Ok(copy) = bytes.to_vec(alloc) else {
-        *lost = true;
-        return;
-    };
-    let Ok(()) = log.push(Call::Gave(copy)) else {
-        *lost = true;
-        return;
-    };
-}
-
-/// Logs that these bytes were taken.
-#[tactic(auto, using(crate::proofs::Logging::noted, crate::proofs::Logging::lost_now))]
-fn note_took(alloc: Global, log: &mut Vec<Call>, lost: &mut bool, bytes: &[u8])
-    ensures { Along (history_of lost.old log.old.items) (history_of lost.new log.new.items)
-        (λ h k. k ≡ Took bytes.now ∷ h) }
-{
-    let Ok(copy) = bytes.to_vec(alloc) else {
-        *lost = true;
-        return;
-    };
-    let Ok(()) = log.push(Call::Took(copy)) else {
-        *lost = true;
-        return;
-    };
-}
-
-/// Logs that what was taken was given on.
-#[tactic(auto, using(crate::proofs::Logging::noted, crate::proofs::Logging::lost_now))]
-fn note_given_on(log: &mut Vec<Call>, lost: &mut bool)
-    ensures { Along (history_of lost.old log.old.items) (history_of lost.new log.new.items) (λ h k. k ≡ Given_on ∷ h) }
-{
-    let Ok(()) = log.push(Call::GivenOn) else {
+    let Ok(()) = log.push(call) else {
         *lost = true;
         return;
     };
@@ -103,21 +72,29 @@ impl<'a> Peer for MemoryPeer<'a> {
 
     ghost faults = { λ _. 0 };
 
+    #[tactic(auto, using(crate::proofs::Logging::lost_now))]
     fn ask(&mut self, buffer: &mut [u8]) -> Result<usize, Failed> {
         let n = self.most.min(buffer.len().min(self.rest.len()));
         buffer[..n].copy_from_slice(&self.rest[..n]);
         self.rest = &self.rest[n..];
-        note_gave(self.alloc, &mut self.log, &mut self.lost, &buffer[..n]);
+        match buffer[..n].to_vec(self.alloc) {
+            Ok(copy) => note(&mut self.log, &mut self.lost, Call::Gave(copy)),
+            Err(_) => self.lost = true,
+        }
         Ok(n)
     }
 
+    #[tactic(auto, using(crate::proofs::Logging::lost_now))]
     fn hand(&mut self, piece: &[u8]) -> Result<usize, Failed> {
-        note_took(self.alloc, &mut self.log, &mut self.lost, piece);
+        match piece.to_vec(self.alloc) {
+            Ok(copy) => note(&mut self.log, &mut self.lost, Call::Took(copy)),
+            Err(_) => self.lost = true,
+        }
         Ok(piece.len())
     }
 
     fn flush(&mut self) -> Result<(), Failed> {
-        note_given_on(&mut self.log, &mut self.lost);
+        note(&mut self.log, &mut self.lost, Call::GivenOn);
         Ok(())
     }
 }
