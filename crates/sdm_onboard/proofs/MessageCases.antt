@@ -14,6 +14,7 @@ use Rattle.sdm_rules.specs.declared.authorities.Authority.{Authority}
 use Rattle.sdm_rules.specs.declared.authorities.Authority.TheVariants.{Stop}
 use Rattle.sdm_rules.specs.declared.data.SlopeKind.TheVariants.{Safe}
 use Rattle.sdm_rules.specs.declared.records.Event.TheVariants as record_kinds
+use Rattle.sdm_rules.specs.declared.restrictions.Restriction.{Restriction}
 use Rattle.sdm_rules.specs.Cells.{place_of_cell}
 use Rattle.sdm_rules.specs.Commands.{commands_after, emergency_after, nothing_held}
 use Rattle.sdm_rules.specs.Curves.{place_at, corner, arc, stepped, arc_back, back}
@@ -53,8 +54,8 @@ use Rattle.sdm_onboard.specs.declared.messages.Message.TheVariants as messages
 use Rattle.sdm_onboard.specs.declared.messages.Odometry.{Odometry}
 use Rattle.sdm_onboard.specs.declared.onboard.Onboard.{Onboard}
 use Rattle.sdm_onboard.specs.Guard.{bounds}
-use Rattle.sdm_onboard.specs.Messages.{Follows, IsFor, computer_of, reading_in, service_of}
-use Rattle.sdm_onboard.specs.Missing.{HoldsBrakes}
+use Rattle.sdm_onboard.specs.Messages.{Follows, IsFor, computer_of, reading_in, service_of, Takes}
+use Rattle.sdm_onboard.specs.Missing.{HoldsBrakes, Remembers}
 use Rattle.sdm_onboard.specs.Runs.{IsOver, IsRun, LawOfBrakes, LawOfMessagePlaces, LawOfMessageRides, LawOfMessages}
 use Rattle.sdm_onboard.specs.Runs.{LawOfGuardedMessages, LawOfServiceMessages}
 
@@ -421,3 +422,18 @@ braked_by_guard o p is follows =
     (subst (λ (s : Supervision). judged_in s (Record (record_kinds.Read release.first)) ≡ Some release.first) (sym is)
     first_judged)
     (subst (λ (s : Supervision). (by_guarded bounds).orders s release.first ≡ true) (sym is) ordered_by_guard)
+
+-- ---- what the clauses say of one message
+
+-- a missing reading orders the emergency brake
+braked_when_missing : (o p : Onboard) (h : Happening) → Takes o messages.Overdue h p → p.orders.emergency ≡ true
+braked_when_missing o p h takes = takes.follows.emergency.overdue takes.is_for
+
+-- a restriction to 0 km/h is refused, and is missing still when an authority comes
+abbrev standstill : Restriction
+standstill = record { id = 7; start = 100; end = 200; speed = 0; delayed = true }
+
+missing_still : (o p q : Onboard) (a : Authority) → Remembers o (messages.Restriction standstill) p →
+    Remembers p (messages.Authority a) q → q.is_restriction_missing ≡ true
+missing_still o p q a first second =
+    second.stays (first.restriction (λ takes. let slow = takes.speed.slowest in absurd (omega (arith, slow))))
