@@ -151,16 +151,18 @@ class Sweeps(unittest.TestCase):
             [length for length in (16, 17, 18) if f'"train.length": {length}' in path.read_text()], [16, 18]
         )
 
-    def test_a_process_that_ends_loses_nothing_and_does_nothing_twice(self):
-        path = self.room / "done"
+    def test_a_process_that_is_killed_loses_nothing_and_does_nothing_twice(self):
+        """Killed in a batch of one job, the first, and in a later one."""
 
-        def logged(number):
-            if number == 31 and not path.with_suffix(".once").exists():
-                path.with_suffix(".once").touch()
+        def ended_once(number):
+            if number in (0, 31) and not (self.room / str(number)).exists():
+                (self.room / str(number)).touch()
                 os.kill(os.getpid(), signal.SIGKILL)
             return number
 
-        made = sorted((job, outcome) for job, outcome, why in outcomes(logged, range(200), processes=3) if why is None)
+        made = sorted(
+            (job, outcome) for job, outcome, why in outcomes(ended_once, range(200), processes=3) if why is None
+        )
         self.assertEqual(made, [(number, number) for number in range(200)])
 
 
@@ -253,3 +255,11 @@ class Told(unittest.TestCase):
 
     def test_what_is_soon_done_is_told_nothing_of(self):
         self.assertEqual(self.told(False, 0, 1000, 1000) + self.told(True, 0, 1000, 1000), "")
+
+    def test_what_was_there_before_counts_for_no_rate(self):
+        now = iter([0.0, *([0.0] * 40), 10.0])
+        with mock.patch("sdm.engine.time.monotonic", lambda: next(now)):
+            progress = ProgressLine("variations", 100)
+            for number in range(40):
+                progress.count(is_kept=number < 30)
+            self.assertEqual(progress.line(), "40 of 100 variations, 1.0 a second, 0:01:00 left")
