@@ -10,7 +10,7 @@ from __future__ import annotations
 from collections.abc import Iterable, Iterator
 from dataclasses import fields
 from types import NoneType
-from typing import TYPE_CHECKING, Any, get_args, get_type_hints
+from typing import TYPE_CHECKING, Any, TypeAlias, get_args, get_type_hints
 
 import numpy as np
 import numpy.typing as npt
@@ -24,7 +24,7 @@ if TYPE_CHECKING:
 
 Array = npt.NDArray[np.void]
 Item = Reading | Row | Display | Causes
-Items = Array | Iterable[Item]
+Items: TypeAlias = "Array | pandas.DataFrame | Iterable[Item]"
 KINDS: tuple[type[Item], ...] = (Row, Reading, Display, Causes)
 Columns = dict[str, tuple[Any, bool]]  # each with its type and whether it may be missing
 BY_DEFAULT = {"accel_cm_s2": 0, "under_mm_s": 0}
@@ -208,6 +208,8 @@ def records_in(records: Any) -> list[Record]:
     """Records of any form as values."""
     if isinstance(records, np.ndarray) or is_frame(records):
         return [Reading(*fields) for fields in array_of(records, Reading).tolist()]
+    if not isinstance(records, Iterable):
+        raise KindError(f"expected records, and not {shown(records)}")
     return list(records_of(records) if isinstance(records, str | bytes) else records)
 
 

@@ -35,7 +35,7 @@ from sdm.rows import (
 )
 
 if TYPE_CHECKING:
-    from sdm.arrays import Array
+    from sdm.arrays import Array, Items
 
 LAYOUT = 2  # SDM_LAYOUT
 HERE = Path(__file__).resolve().parent
@@ -243,7 +243,7 @@ class Supervisor:
         self._ask("sdm_cycle", reading, ctypes.addressof(row))
         return row_of(row)
 
-    def cycles(self, readings: Any) -> Array:
+    def cycles(self, readings: Items) -> Array:
         """Judges many readings, an array of the type sdm.READING, a frame or a list of them, and answers an array of as
         many rows, of the type sdm.ROW.
 

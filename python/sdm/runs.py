@@ -2,16 +2,20 @@
 from __future__ import annotations
 
 import ctypes
-from typing import Any
+from collections.abc import Iterable
+from typing import TYPE_CHECKING, TypeAlias
 
 import numpy as np
 
-from sdm.arrays import Array, is_frame
+from sdm.arrays import Array, is_frame, records_in
 from sdm.library import Supervisor
-from sdm.records import Data, records_of
+from sdm.records import Data, Record, records_of
 from sdm.rows import Causes, Display, Row
 
-Records = Any  # an array or a frame of readings, a text as the program takes it, or any records
+if TYPE_CHECKING:
+    import pandas
+
+Records: TypeAlias = "Array | pandas.DataFrame | str | bytes | Iterable[Record]"
 
 
 def run(data: Data, records: Records, library: ctypes.CDLL | None = None) -> Array:
@@ -42,10 +46,6 @@ def answers(data: Data, records: Records, kind: type, library: ctypes.CDLL | Non
         return supervisor.take_all(held(records), kind)
 
 
-def held(records: Records) -> Any:
-    """Records as an iterable of values."""
-    from sdm.arrays import records_in
-
-    if isinstance(records, str | bytes):
-        return records_of(records)
-    return records_in(records) if isinstance(records, np.ndarray) or is_frame(records) else records
+def held(records: Records) -> Iterable[Record]:
+    """Records as values; those of a text as they are read."""
+    return records_of(records) if isinstance(records, str | bytes) else records_in(records)

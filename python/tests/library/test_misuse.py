@@ -142,6 +142,10 @@ class Misuse(unittest.TestCase):
                 Supervisor(data)
         with self.assertRaises(sdm.FormError):
             sdm.run(DATA, "read,1,2\n")
+        for records in (5, None, [5], [SOME, "read"], np.zeros(3)):
+            for call in (sdm.run, sdm.display, sdm.causes):
+                with self.assertRaises(sdm.KindError, msg=records):
+                    call(DATA, records)
         for copied in (copy.copy, copy.deepcopy, pickle.dumps):
             with self.assertRaises(TypeError):
                 copied(self.supervisor)
