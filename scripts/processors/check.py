@@ -160,7 +160,7 @@ def folders_of(dist: Path | None, names: Iterable[str], scratch: Path) -> dict[s
 def played(program: Path, dist: Path | None, scratch: Path, ways: Ways, count: int) -> list[Played]:
     """How each way came out."""
     folders, before = folders_of(dist, ways.names, scratch), sum(os.times()[:4])
-    by_seed = journeys.by(program, ways.made)
+    by_seed = journeys.by(program, ways.made) + journeys.misspelt(program)
     packed, made = scratch / "journeys.packed", scratch / "made"
     packed.write_bytes(journeys.packed_with_changes(journeys.stored() + by_seed))
     write_folders(by_seed, made)

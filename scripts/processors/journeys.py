@@ -3,6 +3,7 @@ from seeds, with what a program writes."""
 from __future__ import annotations
 
 import itertools
+import re
 from collections.abc import Iterator, Sequence
 from concurrent.futures import ThreadPoolExecutor
 from functools import partial
@@ -20,6 +21,7 @@ CHANGES = 300  # journeys over several data parts
 SAMPLE = 12  # of each so many stored journeys one is in what a target takes as C
 THREADS = 2
 ALTERED = ["approach", "display", "causes", "refused-data", "refused-opening"]  # examples whose answers are altered
+LONG_KEY = re.compile(rb"^(\w{16,}) =", re.M)
 PLAIN_RULES = [rule for rule in RULES if rule != Rule.TARGET]  # a target has numbers behind it
 WORDS: dict[str, dict[int, Sequence[str]]] = {  # of the columns of what each command writes
     "run": {1: STATES, 2: SUPERVISIONS},
@@ -49,6 +51,18 @@ def by(program: Path, count: int) -> list[Case]:
         if len(found) >= count:
             break
     return found[:count]
+
+
+def misspelt(program: Path) -> list[Case]:
+    """The example with every key, each letter of its long keys in turn spelt wrongly, with what a program writes: bytes
+    are compared by 16 from so many on."""
+    case = case_of(TOP / "examples" / "every-key", "every-key")
+    found = []
+    for key in LONG_KEY.finditer(case.data):
+        for at in range(*key.span(1)):
+            data = case.data[:at] + b"z" + case.data[at + 1 :]
+            found.append(Case(f"every-key, byte {at} another", ["run"], data, run(program, ["run"], data)))
+    return found
 
 
 def all_packed(cases: list[Case]) -> list[bytes]:
