@@ -15,7 +15,7 @@ from dataclasses import astuple
 from sdm.laboratory.cases import Case
 from sdm.laboratory.program import Fault
 from sdm.records import Record, record_of
-from sdm.rows import RULES, STANDINGS, STATES, SUPERVISIONS, TARGETS, TEXTS, Rule, Status
+from sdm.rows import RULES, STANDINGS, STATES, SUPERVISIONS, TARGETS, TEXTS, Rule, SdmError, Status
 from sdm_evidence.makers.changes import Journey
 from sdm_evidence.makers.journeys import record as fields_of
 from sdm_evidence.makers.toml_text import toml
@@ -97,7 +97,7 @@ def record_or_none(fields: list[bytes]) -> Record | None:
     """The record that fields write; none where their form is refused."""
     try:
         return record_of([field.decode("latin-1") for field in fields])
-    except ValueError:
+    except (ValueError, SdmError):
         return None
 
 

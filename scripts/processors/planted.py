@@ -94,7 +94,7 @@ MISTAKES = [
         r"\(to->data \+ to_at, from->data \+ from_at",
         "(to->data + from_at, to->data + to_at",
     ),
-    Mistake("a part of a number of 64 bits", C, "operations.h", r" \| \(u64\)at\[4\] << 32", ""),
+    Mistake("half of a number of 64 bits", C, "operations.h", r"DEFINE_GET\(64, u64\)", "DEFINE_GET(64, u32)"),
     Mistake(
         "a sign that is lost", C, "operations.h", r"\(i64_load32_s, 32, s32, u64\)", "(i64_load32_s, 32, u32, u64)"
     ),
@@ -105,13 +105,6 @@ MISTAKES = [
         "module.ll",
         sum_in("sdm_curve::levels::integral_at"),
         LOST_CARRY,
-    ),
-    Mistake(
-        "an instruction of the old processor that is written wrongly",
-        MODULE,
-        "module.ll",
-        r"%sum = add <16 x i8> %even, %odd",
-        "%sum = add <16 x i8> %even, %even",
     ),
     Mistake("a place that may be none, typed as one", TYPES, "sdm.d.mts", r"ebi_mm: number \| null", "ebi_mm: number"),
     Mistake("a call without its type", TYPES, "sdm.d.mts", r"  takeOver\(before: Supervisor\): void;\n", ""),
