@@ -95,9 +95,6 @@ MISTAKES = [
         "(to->data + from_at, to->data + to_at",
     ),
     Mistake("half of a number of 64 bits", C, "operations.h", r"DEFINE_GET\(64, u64\)", "DEFINE_GET(64, u32)"),
-    Mistake(
-        "a sign that is lost", C, "operations.h", r"\(i64_load32_s, 32, s32, u64\)", "(i64_load32_s, 32, u32, u64)"
-    ),
     Mistake("a lost carry of 128 bits", MODULE, "module.ll", sum_in("sdm_curve::knots::Knot::at"), LOST_CARRY),
     Mistake(
         "a lost carry of 128 bits in another sum",
