@@ -77,9 +77,9 @@ CHECKS: dict[Group, list[Part]] = {
         Part("worked", "product.worked", "runs that were worked by hand"),
         Part("trials", "tries.definitions", "a sample of wrong definitions: the cases that they name refuse them"),
         Part("examples", "product.examples", "the program over each folder of examples/"),
+        Part("edits", "editing.check", "each edit is refused by the goal that its file names"),
     ],
     "elsewhere": [
-        Part("edits", "editing.check", "each edit is refused by the goal that its file names"),
         Part("processors-all", "processors.check --all", "the library on each processor, in browsers, by npm"),
         Part("release", "packing/check-release", "a release in a clean Debian"),
     ],

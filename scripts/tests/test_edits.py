@@ -3,6 +3,7 @@ edited.txt and over what the prover told of others."""
 
 from __future__ import annotations
 
+import tempfile
 import unittest
 from pathlib import Path
 
@@ -40,6 +41,21 @@ fn low::judge: no proof: expected answers in ./proofs/judge/Answers.antt; `searc
 fn low::row: no proof: it calls `low::judge`, which is not proved
 only=2 proved=0
 """
+# A proof file with a lemma, an answer that is a record of clauses, and one that cites the lemma.
+PROOF = """same : (c : goal.After-k) → c.k ≡ c.n
+same c = refl
+
+pub returns : goal.returns
+returns c =
+    let held = same c in
+    record {
+      early = held;
+      held = refl;
+    }
+
+pub loop-k-preserved : goal.loop-k-preserved
+loop-k-preserved c = same c
+"""
 
 
 def repository(top: Path) -> None:
@@ -63,8 +79,9 @@ class Edits(unittest.TestCase):
             with self.subTest(name):
                 self.assertIn(f"low/{name}: FAILED: {why}", told)
         self.assertEqual(status, 1, told)
-        # those that lie there pass: of functions, one of which calls another, and of a constant of a crate below
-        self.assertIn(f"edits: 5 passed, {len(FAULTS)} failed", told.splitlines())
+        # those that lie there pass: of functions, one of which calls another, of a text that stands twice in its file,
+        # and of a constant of a crate below
+        self.assertIn(f"edits: 6 passed, {len(FAULTS)} failed", told.splitlines())
 
     def test_no_edit_is_a_fault(self) -> None:
         with copies.a_copy(["scripts"]) as top:
@@ -82,3 +99,17 @@ class Edits(unittest.TestCase):
         counted = [each.goal for each in told.of("judge") if each.counts()]
         self.assertEqual(counted, ["returns-clause-status"])
         self.assertEqual(told.of("row"), [])
+
+    def test_an_error_in_a_proof_is_one_of_the_goals_that_rest_on_it(self) -> None:
+        with tempfile.TemporaryDirectory() as scratch:
+            file = Path(scratch) / "proofs" / "judge" / "Answers.antt"
+            file.parent.mkdir(parents=True)
+            file.write_text(PROOF)
+            for line, goal, expected in (
+                (2, "same", ["returns", "loop-k-preserved"]),
+                (9, "returns", ["returns-clause-held"]),
+                (6, "returns", ["returns"]),
+            ):
+                said = f"./proofs/judge/Answers.antt:{line}:5: error: `{goal}`: the two types differ\n"
+                told = heard("low", [], said, Path(scratch)).of("judge")
+                self.assertEqual([each.goal for each in told if each.counts()], expected)
