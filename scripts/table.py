@@ -107,6 +107,7 @@ SHOWN = [
 ]
 TRIES = [
     Part("bounds", "tries.bounds", "the bounds against painted stacks and counted instructions"),
+    Part("browsed", "tries.browsed", "docs/definitions.html in a browser"),
     Part("definitions", "tries.definitions", "wrong definitions are refused by the cases that their files name"),
     Part("diagnose", "tries/diagnose", "how often tools/diagnose names what was planted in recordings"),
     Part("faults", "tries.faults", "each call of the program to the system fails in turn"),

@@ -15,6 +15,7 @@ from scripts.table import CHECKS, OTHERS, SHOWN, TRIES, WRITERS
 from scripts.tests import copies
 
 EXAMPLE = "examples/approach"
+IN_A_BROWSER = ("tries.browsed", "tries.report")  # they import what `scripts/setup tools` installs
 MADE = ["scripts/house", "check", "model", "--seed", "10", "--journeys", "10"]
 AT_THE_CEILING = [
     "scripts/house",
@@ -372,7 +373,7 @@ class Gate(OverACopy):
                 first = part.does.split()[0]
                 if "/" in first:
                     self.assertTrue((copies.TOP / "scripts" / first).is_file())
-                elif first != "tries.report":  # which imports what `scripts/setup tools` installs
+                elif first not in IN_A_BROWSER:
                     self.assertTrue(callable(import_module(f"scripts.{first}").main))
 
     def test_each_module_with_a_main_is_in_the_table(self) -> None:
