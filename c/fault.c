@@ -134,8 +134,8 @@ static const struct misuse misuses[] = {
     {"an identity that is a held one in 16 bits", SDM_OUT_OF_RANGE, {EVENT_REVOKE, {65536 + HELD_ID}}},
 };
 
-/* Makes a call that is refused: it answers what is due, and writes nothing. Of a reading the display and the
- * causes are asked too, which know no last time. */
+/* Makes a call that is refused: it answers what is due, and writes nothing. Of a reading the display, the causes and
+ * whether it would be covered are asked too, which know no last time. */
 static void refuse(struct sdm *h, const struct misuse *misuse) {
     struct sdm before = *h;
     struct sdm_row row;
@@ -150,6 +150,7 @@ static void refuse(struct sdm *h, const struct misuse *misuse) {
         struct sdm_reading reading = event_reading(&misuse->event);
         check_answer(sdm_display(h, &reading, &display), misuse->due, misuse->what);
         check_answer(sdm_causes(h, &reading, &causes), misuse->due, misuse->what);
+        refuse_ahead(h, &reading, misuse->due, misuse->what);
     }
     check(is_unwritten(&row, sizeof row), "the row isn't written", misuse->what);
     check(is_unwritten(&display, sizeof display), "the display isn't written", misuse->what);
@@ -164,6 +165,7 @@ static void misuse_closed(struct sdm *h, const char *what) {
     for (size_t i = 0; i < sizeof without_supervisor / sizeof without_supervisor[0]; i++)
         refuse(h, &without_supervisor[i]);
     heap_test_begin(0, 0);
+    refuse_stops_closed(h);
     sdm_close(h);
     sdm_close(h);
     check(is_closed(*h), "the handle is as SDM_INIT after closing", what);
@@ -307,6 +309,10 @@ static void misuse_open(struct sdm *h, struct sdm *twin, const struct journey *j
         refuse(h, &misuses[i]);
         compare(h, twin, &reading, misuses[i].what);
     }
+    heap_test_begin(0, 0);
+    misuse_stops(h);
+    check_no_memory_moved("where a train stops, misused");
+    compare(h, twin, &reading, "where a train stops, misused");
     fill(h, twin, &reading);
     change_data(h, twin, journey, &reading, "a change of data with all restrictions");
 }
@@ -324,6 +330,30 @@ static void check_standings(const struct sdm_causes *causes, const struct sdm_ro
     check((causes->eb == SDM_SET) == emer, "the emergency brake is set where it has a cause", of);
 }
 
+/* Takes a record; of a reading that is taken all else is asked, too. Whether it is one. */
+static bool play_record(struct sdm *h, const struct event *event) {
+    struct sdm_row row;
+    struct sdm_display display;
+    struct sdm_causes causes;
+    struct ahead ahead = {0, 0};
+    unwritten(&row, sizeof row);
+    unwritten(&display, sizeof display);
+    unwritten(&causes, sizeof causes);
+    bool is_reading = event->kind == EVENT_READ;
+    struct sdm_reading reading = {0, 0, 0, 0, 0, 0, 0};
+    if (is_reading) {
+        reading = event_reading(event);
+        ask_ahead(h, &reading, &ahead);
+    }
+    if (event_take(h, event, &row) != SDM_DONE || !is_reading)
+        return false;
+    check_ahead(&ahead, &row);
+    check_answer(sdm_display(h, &reading, &display), SDM_DONE, "a display");
+    check_answer(sdm_causes(h, &reading, &causes), SDM_DONE, "causes");
+    check_standings(&causes, &row);
+    return true;
+}
+
 /* Plays the whole journey: no record takes memory, and a handle may be moved. */
 static void play(struct sdm *h, const struct journey *journey) {
     const uint8_t *at = journey->records;
@@ -331,22 +361,10 @@ static void play(struct sdm *h, const struct journey *journey) {
     heap_test_begin(0, 0);
     while (at < journey->end) {
         struct event event;
-        struct sdm_row row;
-        struct sdm_display display;
-        struct sdm_causes causes;
         struct sdm moved = *h, closed = SDM_INIT;
         *h = closed;
-        unwritten(&row, sizeof row);
-        unwritten(&display, sizeof display);
-        unwritten(&causes, sizeof causes);
-        if (event_read(&at, journey->end, &event, &column) == FORM_DONE &&
-            event_take(&moved, &event, &row) == SDM_DONE && event.kind == EVENT_READ) {
-            struct sdm_reading reading = event_reading(&event);
-            check_answer(sdm_display(&moved, &reading, &display), SDM_DONE, "a display");
-            check_answer(sdm_causes(&moved, &reading, &causes), SDM_DONE, "causes");
-            check_standings(&causes, &row);
+        if (event_read(&at, journey->end, &event, &column) == FORM_DONE && play_record(&moved, &event))
             readings++;
-        }
         *h = moved;
     }
     check_no_memory_moved("a journey");
@@ -376,15 +394,6 @@ static void misuse_supervisor(const struct journey *journey) {
     check(heap_test_counts().held == 0, "closing gives all memory back", "the supervisors");
 }
 
-/* Each status has a text of its own, and so has a number that is none. */
-static void tell_statuses(void) {
-    for (uint32_t one = SDM_DONE; one <= SDM_NOT_FRESH + 1; one++)
-        for (uint32_t other = SDM_DONE; other < one; other++)
-            check(strcmp(sdm_status_text(one), sdm_status_text(other)) != 0, "it is its own", "the text of a status");
-    check(strcmp(sdm_status_text(SDM_NOT_FRESH + 1), sdm_status_text(UINT32_MAX)) == 0, "it is that of no status",
-          "the text of a number that is none");
-}
-
 int main(void) {
     struct journey journey;
     if (journey_read(stdin, &journey) != JOURNEY_READ) {
@@ -392,7 +401,11 @@ int main(void) {
         return 64;
     }
     check(sdm_layout() == SDM_LAYOUT, "it is that of sdm.h", "the layout");
-    tell_statuses();
+    check(sdm_version() == SDM_VERSION, "it is that of sdm.h", "the version");
+    tell_texts();
+    name_fields();
+    ask_stops();
+    ask_at_a_fall();
     refuse_data("", "sdm: bad data: missing version\n");
     refuse_data("version = ", "sdm: bad data: not TOML\n");
     refuse_data("version = 1\n", "sdm: bad data: missing train\n");

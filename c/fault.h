@@ -34,6 +34,38 @@ void misuse_change(struct sdm *h, struct sdm *twin, const struct event *reading)
 void change_data(struct sdm *h, struct sdm *twin, const struct journey *journey, const struct event *reading,
                  const char *what);
 
+/* Asks where a train stops of a handle without supervisor. */
+void refuse_stops_closed(struct sdm *h);
+
+/* Asks it with numbers out of their ranges, which changes nothing. */
+void misuse_stops(struct sdm *h);
+
+/* Asks it over data whose answers were worked by hand. */
+void ask_stops(void);
+
+/* What is asked of a reading before it is judged: whether it would be covered, and each up to it that asks no more. */
+struct ahead {
+    uint32_t is_covered, is_each_covered;
+};
+
+/* Asks it. */
+void ask_ahead(struct sdm *h, const struct sdm_reading *reading, struct ahead *ahead);
+
+/* Asks it of a reading that is refused, which writes nothing. */
+void refuse_ahead(struct sdm *h, const struct sdm_reading *reading, uint32_t due, const char *what);
+
+/* That what was asked of a reading is what its row says. */
+void check_ahead(const struct ahead *ahead, const struct sdm_row *row);
+
+/* Asks it before and past a fall of the speed, where the answers were worked by hand. */
+void ask_at_a_fall(void);
+
+/* That each number of an enum has a text of its own. */
+void tell_texts(void);
+
+/* That of a struct with numbers outside their ranges the first is named. */
+void name_fields(void);
+
 #ifdef __cplusplus
 }
 #endif

@@ -28,6 +28,11 @@ extern "C" {
  * isn't listed here. */
 #define SDM_LAYOUT 2u
 
+/* The version of this header, as a number: 1,000,000 for each first number of it, 1,000 for each second and 1 for each
+ * third. A program that uses a call of a later version than its least one asks #if SDM_VERSION; one that is linked with a
+ * shared library compares sdm_version(), too. */
+#define SDM_VERSION 11001u /* 0.11.1 */
+
 /* Makes compilers warn of a call whose status is ignored, where they can. */
 #if defined(__cplusplus) && __cplusplus >= 201703L
 #define SDM_MUST_CHECK [[nodiscard]]
@@ -134,6 +139,31 @@ struct sdm_restriction {
     uint32_t is_delayed; /* 0, or 1: its end counts for the rear end of the train */
 };
 
+/* What a train may be beyond its estimate at a reading, and gain after it. */
+struct sdm_allowance {
+    uint32_t front_mm;    /* past the estimated front end, 0 to 10,000,000 */
+    uint32_t speed_mm_s;  /* faster than V_est, 0 to 10,000 */
+    uint32_t accel_cm_s2; /* gained after the reading, 0 to 300 */
+};
+
+/* A number of a struct that is outside its range. */
+enum sdm_field {
+    SDM_NO_FIELD = 0,
+    SDM_READING_TIME_DS = 1,
+    SDM_READING_EST_MM = 2,
+    SDM_READING_MIN_MM = 3,
+    SDM_READING_MAX_MM = 4,
+    SDM_READING_SPEED_MM_S = 5,
+    SDM_READING_ACCEL_CM_S2 = 6,
+    SDM_READING_UNDER_MM_S = 7,
+    SDM_RESTRICTION_ID = 8,
+    SDM_RESTRICTION_SPEED_KMH = 9,
+    SDM_RESTRICTION_IS_DELAYED = 10,
+    SDM_ALLOWANCE_FRONT_MM = 11,
+    SDM_ALLOWANCE_SPEED_MM_S = 12,
+    SDM_ALLOWANCE_ACCEL_CM_S2 = 13
+};
+
 /* The kind of a target: a fall of the speed profile, the end of authority, the supervised location, the
  * limit of authority. */
 enum sdm_target { SDM_NO_TARGET = 0, SDM_FALL = 1, SDM_EOA = 2, SDM_SVL = 3, SDM_LOA = 4 };
@@ -199,9 +229,24 @@ struct sdm_causes {
 /* The number of the layout that the library was built for: SDM_LAYOUT, or the two don't belong together. */
 uint32_t sdm_layout(void);
 
+/* The version that the library was built from, in the form of SDM_VERSION. */
+uint32_t sdm_version(void);
+
 /* The text of a status: a few English words with a zero at their end, which stay as long as the program runs. They are
  * for people: another version may word them differently. A number that is no status has a text too. */
 const char *sdm_status_text(uint32_t status);
+
+/* The text of a state of a row (enum sdm_state), as sdm_status_text has it. */
+const char *sdm_state_text(uint32_t state);
+
+/* The text of the supervision status of a row (enum sdm_supervision), as sdm_status_text has it. */
+const char *sdm_supervision_text(uint32_t supervision);
+
+/* The text of the rule of a cause (enum sdm_rule), as sdm_status_text has it. */
+const char *sdm_rule_text(uint32_t rule);
+
+/* The text of a field (enum sdm_field): which number of which struct, with its range, as sdm_status_text has it. */
+const char *sdm_field_text(uint32_t field);
 
 /* Opens a supervisor over a data part in TOML, of version 1 or 2 (docs/FORMATS.md), which it doesn't keep. SDM_BAD_DATA
  * and SDM_REFUSED write the line; all others leave it as it is. SDM_IN_USE, SDM_BAD_DATA, SDM_REFUSED; SDM_NO_MEMORY
@@ -244,6 +289,39 @@ SDM_MUST_CHECK uint32_t sdm_display(struct sdm *h, const struct sdm_reading *rea
 /* Writes why a reading triggers, and how each command stands after it; ask it once sdm_cycle has taken the reading, so
  * that the commands are those of its row. It changes no supervisor. SDM_CLOSED, SDM_OUT_OF_RANGE. */
 SDM_MUST_CHECK uint32_t sdm_causes(struct sdm *h, const struct sdm_reading *reading, struct sdm_causes *causes);
+
+/* Writes 1 where the row of a reading would be covered if the reading were the next one, else 0. The reading's time is
+ * tested for its range alone. It changes no supervisor. SDM_CLOSED, SDM_OUT_OF_RANGE. */
+SDM_MUST_CHECK uint32_t sdm_would_cover(struct sdm *h, const struct sdm_reading *reading, uint32_t *is_covered);
+
+/* Writes 1 where a reading would cover each target past its min safe front end, else 0. Where it is 1, each reading is
+ * covered or in SDM_RELEASE whose max safe front end is from min_mm to max_mm of the asked one, and whose V_est with the
+ * under-reading amount and whose acceleration are at most its own, under the data, the authority and the restrictions in
+ * force (docs/INTEGRATION.md, "Before a gap"). The asked reading's time is tested for its range alone. It changes no
+ * supervisor. SDM_CLOSED, SDM_OUT_OF_RANGE. */
+SDM_MUST_CHECK uint32_t sdm_would_cover_up_to(struct sdm *h, const struct sdm_reading *asked, uint32_t *is_covered);
+
+/* Writes 1 where the authority in force is an end whose release speed has a trip place, else 0, for readings that keep two
+ * bounds until the train is tripped: width_cm from the min to the max safe front end, and excess_mm_s by which the train
+ * may get faster than V_est until its emergency brake works (docs/INTEGRATION.md, "A calculated release speed"). An end
+ * without release speed is asked as one of 0. It changes no supervisor. SDM_CLOSED. */
+SDM_MUST_CHECK uint32_t sdm_has_trip_place(struct sdm *h, uint32_t width_cm, uint32_t excess_mm_s, uint32_t *has_place);
+
+/* Writes the first whole millimetre of the track by which the service brake stops the train, where the train is beyond
+ * the reading's estimate and gains speed by the allowance at most; none where the track ends before it. It asks neither
+ * targets nor commands, and changes no supervisor. SDM_CLOSED, SDM_OUT_OF_RANGE. */
+SDM_MUST_CHECK uint32_t sdm_clear_of(struct sdm *h, const struct sdm_reading *reading,
+                                     const struct sdm_allowance *allowance, struct sdm_place *first);
+
+/* The first number of a reading that is outside its range, in the order of the struct (enum sdm_field): why a call that
+ * takes the reading returns SDM_OUT_OF_RANGE. SDM_NO_FIELD exactly where none is. */
+uint32_t sdm_reading_field(const struct sdm_reading *reading);
+
+/* The first of a restriction's identity, speed and flag that is outside its range, as sdm_reading_field has it. */
+uint32_t sdm_restriction_field(const struct sdm_restriction *restriction);
+
+/* The first number of an allowance that is outside its range, as sdm_reading_field has it. */
+uint32_t sdm_allowance_field(const struct sdm_allowance *allowance);
 
 /* Frees the memory and leaves the handle as SDM_INIT. Does nothing to a handle that has no supervisor. */
 void sdm_close(struct sdm *h);
@@ -299,6 +377,11 @@ SDM_AT(sdm_restriction, start_cm, 4);
 SDM_AT(sdm_restriction, end_cm, 8);
 SDM_AT(sdm_restriction, speed_kmh, 12);
 SDM_AT(sdm_restriction, is_delayed, 16);
+
+SDM_SIZE(sdm_allowance, 12);
+SDM_AT(sdm_allowance, front_mm, 0);
+SDM_AT(sdm_allowance, speed_mm_s, 4);
+SDM_AT(sdm_allowance, accel_cm_s2, 8);
 
 SDM_SIZE(sdm_display, 40);
 SDM_AT(sdm_display, time_ds, 0);

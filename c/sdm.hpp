@@ -21,6 +21,7 @@ namespace sdm_cpp {
 using Reading = sdm_reading;
 using Row = sdm_row;
 using Restriction = sdm_restriction;
+using Allowance = sdm_allowance;
 using Display = struct ::sdm_display; /* the struct, and not the call */
 using Causes = struct ::sdm_causes;   /* the struct, and not the call */
 
@@ -52,6 +53,19 @@ inline std::string_view text(Status status) noexcept {
         return "the library was built for another layout of its header";
     return sdm_status_text(static_cast<std::uint32_t>(status));
 }
+
+/* What a state, a supervision status, a rule and a field say, for people. */
+inline std::string_view text(sdm_state state) noexcept { return sdm_state_text(state); }
+inline std::string_view text(sdm_supervision supervision) noexcept { return sdm_supervision_text(supervision); }
+inline std::string_view text(sdm_rule rule) noexcept { return sdm_rule_text(rule); }
+inline std::string_view text(sdm_field field) noexcept { return sdm_field_text(field); }
+
+/* The first number of a struct that is outside its range: SDM_NO_FIELD exactly where none is. */
+inline sdm_field field_of(const Reading &reading) noexcept { return sdm_field(sdm_reading_field(&reading)); }
+inline sdm_field field_of(const Restriction &restriction) noexcept {
+    return sdm_field(sdm_restriction_field(&restriction));
+}
+inline sdm_field field_of(const Allowance &allowance) noexcept { return sdm_field(sdm_allowance_field(&allowance)); }
 
 /* The place in mm, or none. */
 inline std::optional<std::int64_t> place_mm(const sdm_place &place) noexcept {
@@ -176,6 +190,38 @@ class Supervisor {
     Expected<Causes, Status> causes(const Reading &reading) noexcept {
         Causes causes = {};
         return answered(sdm_causes(&handle_, &reading, &causes), causes);
+    }
+
+    /* Whether the row of a reading would be covered if the reading were the next one. */
+    Expected<bool, Status> would_cover(const Reading &reading) noexcept {
+        std::uint32_t is_covered = 0;
+        const std::uint32_t status = sdm_would_cover(&handle_, &reading, &is_covered);
+        return answered(status, is_covered == 1);
+    }
+
+    /* Whether a reading would cover each target past its min safe front end: then each reading up to it that asks no more
+     * is covered, or in release speed monitoring. */
+    Expected<bool, Status> would_cover_up_to(const Reading &asked) noexcept {
+        std::uint32_t is_covered = 0;
+        const std::uint32_t status = sdm_would_cover_up_to(&handle_, &asked, &is_covered);
+        return answered(status, is_covered == 1);
+    }
+
+    /* Whether the authority in force is an end whose release speed has a trip place, for readings that keep two bounds
+     * until the train is tripped. */
+    Expected<bool, Status> has_trip_place(std::uint32_t width_cm, std::uint32_t excess_mm_s) noexcept {
+        std::uint32_t has_place = 0;
+        const std::uint32_t status = sdm_has_trip_place(&handle_, width_cm, excess_mm_s, &has_place);
+        return answered(status, has_place == 1);
+    }
+
+    /* The first millimetre of the track by which the service brake stops the train of a reading with an allowance, or
+     * none. */
+    Expected<std::optional<std::int64_t>, Status> clear_of(const Reading &reading,
+                                                           const Allowance &allowance) noexcept {
+        sdm_place first = {};
+        const std::uint32_t status = sdm_clear_of(&handle_, &reading, &allowance, &first);
+        return answered(status, place_mm(first));
     }
 
   private:

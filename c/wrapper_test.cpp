@@ -78,6 +78,44 @@ static void take(Supervisor &supervisor) {
     check(supervisor.revoke(7) == Status::done, "a revocation", of);
 }
 
+/* Where a train of 20 m/s at 800 m stops, which brakes with 1 m/s² at once, as that of examples/approach: 200 m on, with
+ * 1 m/s more 220.5 m; and the release speeds of an EOA 2 m before its SvL, which are up to 7.2 km/h. */
+static void stop(Supervisor &supervisor) {
+    static const char of[] = "where a train stops";
+    static const Reading reading = {10, 800000, 800000, 800000, 20000, 0, 0};
+    static const Reading fast = {10, 800000, 800000, 800000, 60000, 0, 0};
+    auto first = supervisor.clear_of(reading, {0, 0, 0});
+    check(first && *first == 1000000, "the first place", of);
+    first = supervisor.clear_of(reading, {0, 1000, 0});
+    check(first && *first == 1020500, "the first place with an allowance", of);
+    first = supervisor.clear_of(fast, {0, 0, 0});
+    check(first && !first->has_value(), "no place past the track", of);
+    check(supervisor.clear_of(reading, {0, 0, 301}).error() == Status::out_of_range, "an allowance out of range", of);
+    check(supervisor.end(100000, 100200, 7) == Status::done, "a release speed", of);
+    auto has_place = supervisor.has_trip_place(10, 0);
+    check(has_place && *has_place, "its trip place", of);
+    has_place = supervisor.has_trip_place(11, 0);
+    check(has_place && !*has_place, "none for wider readings", of);
+}
+
+/* A train of 25 m/s that brakes with 1 m/s² at once is covered up to 17.12 m before a fall to 80 km/h, whose EBI is at 7.5
+ * km/h more; past the fall that is a target of the readings behind it alone. */
+static void look_ahead(Supervisor &supervisor) {
+    static const char of[] = "a reading that hasn't come";
+    check(supervisor.set_restriction({9, 50000, 60000, 80, 0}) == Status::done, "a restriction", of);
+    auto near = supervisor.would_cover({0, 482880, 482880, 482880, 25000, 0, 0});
+    check(near && *near, "it would be covered", of);
+    near = supervisor.would_cover({0, 482881, 482881, 482881, 25000, 0, 0});
+    check(near && !*near, "it wouldn't be covered", of);
+    auto past = supervisor.would_cover_up_to({0, 510000, 500000, 510000, 25000, 0, 0});
+    check(past && *past, "each past the fall would be covered", of);
+    past = supervisor.would_cover_up_to({0, 510000, 499999, 510000, 25000, 0, 0});
+    check(past && !*past, "not each would be covered", of);
+    check(supervisor.would_cover(TOO_FAST).error() == Status::out_of_range, "one out of its range", of);
+    check(supervisor.would_cover_up_to(TOO_FAST).error() == Status::out_of_range, "one out of its range", of);
+    check(supervisor.revoke(9) == Status::done, "a revocation", of);
+}
+
 /* A supervisor that is moved runs on where it is now; one that is moved over is closed. */
 static void move(std::string_view data) {
     static const char of[] = "a supervisor that is moved";
@@ -129,6 +167,15 @@ static void tell() {
             check(sdm_cpp::text(Status(one)) != sdm_cpp::text(Status(other)), "it is its own", "the text of a status");
     check(sdm_cpp::text(Status::other_layout) != sdm_cpp::text(Status(SDM_NOT_FRESH + 1)), "it is its own",
           "the text of another layout");
+    check(sdm_cpp::text(SDM_RELEASE) == "release speed monitoring", "it is that of C", "the text of a state");
+    check(sdm_cpp::text(SDM_OVERSPEED) == "overspeed", "it is that of C", "the text of a supervision status");
+    check(sdm_cpp::text(SDM_PAST_END) == "past the end of authority", "it is that of C", "the text of a rule");
+    const auto field = sdm_cpp::field_of(TOO_FAST);
+    check(field == SDM_READING_SPEED_MM_S, "it is named", "a field");
+    check(sdm_cpp::text(field) == "speed_mm_s of the reading: 0 to 138,888", "it is that of C", "the text of a field");
+    check(sdm_cpp::field_of(sdm_cpp::Restriction{1, 0, 1, 100, 2}) == SDM_RESTRICTION_IS_DELAYED, "it is named",
+          "a field");
+    check(sdm_cpp::field_of(sdm_cpp::Allowance{0, 0, 0}) == SDM_NO_FIELD, "none is named", "a field");
 }
 
 static void supervise(std::string_view data) {
@@ -137,6 +184,8 @@ static void supervise(std::string_view data) {
     check(supervisor->cycle(LATER).has_value(), "it judges", "a supervisor");
     refuse(*supervisor);
     take(*supervisor);
+    stop(*supervisor);
+    look_ahead(*supervisor);
     check(!sdm_cpp::place_mm({0, 0}) && sdm_cpp::place_mm({-7, 1}) == -7, "it is that of C", "a place");
 }
 

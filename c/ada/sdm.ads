@@ -15,6 +15,9 @@ package SDM is
    --  The number of the layout that this binding is written for: compare it with Layout before the first other call.
    Layout_Of_Binding : constant Word := 2;
 
+   --  The version that this binding is written for, as SDM_VERSION of sdm.h; Version is that of the library.
+   Version_Of_Binding : constant Word := 11001;
+
    --  What a call answers.
    Done           : constant Word := 0;
    Closed         : constant Word := 1;
@@ -70,6 +73,11 @@ package SDM is
       Id, Start_Cm, End_Cm, Speed_Kmh, Is_Delayed : Word;
    end record with Convention => C;
 
+   --  What a train may be beyond its estimate at a reading, and gain after it.
+   type Allowance is record
+      Front_Mm, Speed_Mm_S, Accel_Cm_S2 : Word;
+   end record with Convention => C;
+
    --  Targets: 0 none, 1 a fall of the speed profile, 2 EOA, 3 SvL, 4 LOA.
    type Display is record
       Time_Ds, Permitted_Kmh, Sbi_Kmh, Ebi_Kmh, Release_Kmh, Target, Target_Kmh : Word := 0;
@@ -91,6 +99,9 @@ package SDM is
 
    function Layout return Word
      with Import, Convention => C, External_Name => "sdm_layout";
+
+   function Version return Word
+     with Import, Convention => C, External_Name => "sdm_version";
 
    --  Data is the address of the first byte; it isn't kept.
    function Open
@@ -124,8 +135,36 @@ package SDM is
    function Explain (H : in out Supervisor; Read : Reading; Told : in out Causes) return Word
      with Import, Convention => C, External_Name => "sdm_causes";
 
-   --  What a status says, for people.
+   function Would_Cover (H : in out Supervisor; Read : Reading; Is_Covered : in out Word) return Word
+     with Import, Convention => C, External_Name => "sdm_would_cover";
+
+   function Would_Cover_Up_To (H : in out Supervisor; Asked : Reading; Is_Covered : in out Word) return Word
+     with Import, Convention => C, External_Name => "sdm_would_cover_up_to";
+
+   function Has_Trip_Place
+     (H : in out Supervisor; Width_Cm, Excess_Mm_S : Word; Has_Place : in out Word) return Word
+     with Import, Convention => C, External_Name => "sdm_has_trip_place";
+
+   function Clear_Of
+     (H : in out Supervisor; Read : Reading; Allowed : Allowance; First : in out Place) return Word
+     with Import, Convention => C, External_Name => "sdm_clear_of";
+
+   --  The first number of a record that is outside its range: 0 exactly where none is.
+   function Field_Of (Read : Reading) return Word
+     with Import, Convention => C, External_Name => "sdm_reading_field";
+
+   function Field_Of (Set : Restriction) return Word
+     with Import, Convention => C, External_Name => "sdm_restriction_field";
+
+   function Field_Of (Allowed : Allowance) return Word
+     with Import, Convention => C, External_Name => "sdm_allowance_field";
+
+   --  What a status, a state, a supervision status, a rule and a field say, for people.
    function Text (Status : Word) return String;
+   function State_Text (State : Word) return String;
+   function Supervision_Text (Supervision : Word) return String;
+   function Rule_Text (Rule : Word) return String;
+   function Field_Text (Field : Word) return String;
 
    procedure Close (H : in out Supervisor)
      with Import, Convention => C, External_Name => "sdm_close";
@@ -135,7 +174,28 @@ private
    function Status_Text (Status : Word) return Interfaces.C.Strings.chars_ptr
      with Import, Convention => C, External_Name => "sdm_status_text";
 
+   function C_State_Text (State : Word) return Interfaces.C.Strings.chars_ptr
+     with Import, Convention => C, External_Name => "sdm_state_text";
+
+   function C_Supervision_Text (Supervision : Word) return Interfaces.C.Strings.chars_ptr
+     with Import, Convention => C, External_Name => "sdm_supervision_text";
+
+   function C_Rule_Text (Rule : Word) return Interfaces.C.Strings.chars_ptr
+     with Import, Convention => C, External_Name => "sdm_rule_text";
+
+   function C_Field_Text (Field : Word) return Interfaces.C.Strings.chars_ptr
+     with Import, Convention => C, External_Name => "sdm_field_text";
+
    function Text (Status : Word) return String is (Interfaces.C.Strings.Value (Status_Text (Status)));
+
+   function State_Text (State : Word) return String is (Interfaces.C.Strings.Value (C_State_Text (State)));
+
+   function Supervision_Text (Supervision : Word) return String is
+     (Interfaces.C.Strings.Value (C_Supervision_Text (Supervision)));
+
+   function Rule_Text (Rule : Word) return String is (Interfaces.C.Strings.Value (C_Rule_Text (Rule)));
+
+   function Field_Text (Field : Word) return String is (Interfaces.C.Strings.Value (C_Field_Text (Field)));
 
    type Supervisor is limited record
       At_Address : System.Address := System.Null_Address;
@@ -149,6 +209,7 @@ private
    for Place'Size use 128;
    for Row'Size use 896;
    for Restriction'Size use 160;
+   for Allowance'Size use 96;
    for Display'Size use 320;
    for Cause'Size use 256;
    for Causes'Size use 1152;

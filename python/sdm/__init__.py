@@ -16,7 +16,7 @@ if TYPE_CHECKING:  # for mypy and editors; _HOMES says the same where it runs
     from sdm.importing import ImportFault, Journey, import_recording
     from sdm.library import Supervisor
     from sdm.picture import Picture, plot
-    from sdm.records import End, EndCalculated, Limit, Reading, Record, Restriction, Revocation, records_of
+    from sdm.records import Allowance, End, EndCalculated, Limit, Reading, Record, Restriction, Revocation, records_of
     from sdm.reporting import Report, report
     from sdm.rows import Cause, Causes, Display, Row, Rule, SdmError, Standing, State, Status, Supervision, Target
     from sdm.runs import causes, display, run
@@ -25,7 +25,7 @@ if TYPE_CHECKING:  # for mypy and editors; _HOMES says the same where it runs
 __version__ = "0.11.1"
 # fmt: off
 __all__ = [
-    "Array", "CAUSES", "Cause", "Causes", "DISPLAY", "Diagnosis", "Display", "End", "EndCalculated", "Error",
+    "Allowance", "Array", "CAUSES", "Cause", "Causes", "DISPLAY", "Diagnosis", "Display", "End", "EndCalculated", "Error",
     "Explanation", "Fault", "Finding", "FormError", "ImportFault", "Journey", "KindError", "Limit", "Picture",
     "READING", "ROW", "Reading", "Record", "Report", "Restriction", "Revocation", "Row", "Rule", "SdmError",
     "Standing", "State", "Status", "Supervision", "Supervisor", "Target", "array", "campaign", "causes", "compare",
@@ -42,7 +42,7 @@ _HOMES = {
     "importing": "ImportFault Journey import_recording",
     "library": "Supervisor",
     "picture": "Picture plot",
-    "records": "End EndCalculated Limit Reading Record Restriction Revocation records_of",
+    "records": "Allowance End EndCalculated Limit Reading Record Restriction Revocation records_of",
     "reporting": "Report report",
     "rows": "Cause Causes Display Row Rule SdmError Standing State Status Supervision Target",
     "runs": "causes display run",

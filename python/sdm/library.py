@@ -18,7 +18,8 @@ from types import TracebackType
 from typing import TYPE_CHECKING, Any
 
 from sdm.errors import KindError
-from sdm.records import Data, End, EndCalculated, Limit, Reading, Record, Restriction, Revocation, toml_of
+from sdm.records import Allowance, Data, End, EndCalculated, Limit, Reading, Record, Restriction, Revocation, TripBounds
+from sdm.records import toml_of
 from sdm.rows import (
     TEXTS,
     Cause,
@@ -95,6 +96,12 @@ class RestrictionStruct(ctypes.Structure):
     _fields_ = [(name, c_uint32) for name in ("id", "start_cm", "end_cm", "speed_kmh", "is_delayed")]
 
 
+class AllowanceStruct(ctypes.Structure):
+    """struct sdm_allowance."""
+
+    _fields_ = [(name, c_uint32) for name in ("front_mm", "speed_mm_s", "accel_cm_s2")]
+
+
 SPEEDS = ("permitted_kmh", "sbi_kmh", "ebi_kmh", "release_kmh")
 
 
@@ -138,6 +145,10 @@ CALLS: dict[str, list[Any]] = {
     "sdm_take_over": [c_void_p, c_void_p],
     "sdm_display": [c_void_p, c_void_p, c_void_p],
     "sdm_causes": [c_void_p, c_void_p, c_void_p],
+    "sdm_would_cover": [c_void_p, c_void_p, c_void_p],
+    "sdm_would_cover_up_to": [c_void_p, c_void_p, c_void_p],
+    "sdm_has_trip_place": [c_void_p, c_uint32, c_uint32, c_void_p],
+    "sdm_clear_of": [c_void_p, c_void_p, c_void_p, c_void_p],
 }
 
 
@@ -304,11 +315,11 @@ class Supervisor:
         if status != Status.DONE:
             raise SdmError(Status(status))
 
-    def _numbers(self, call: str, record: Record) -> None:
+    def _numbers(self, call: str, record: Record, *into: int) -> None:
         numbers = record.numbers().values()
         for value in numbers:
             fits(c_uint32, value, record)
-        self._call(call, record, *numbers)
+        self._call(call, record, *numbers, *into)
 
     def take(self, record: Record) -> Row | None:
         """Takes any record: the row of a reading, else nothing."""
@@ -376,6 +387,38 @@ class Supervisor:
         tco, sb, eb = (WORDS[Standing][getattr(told, name)] for name in COMMANDS)
         over, warn, serv, emer = (cause_of(getattr(told, name)) for name in TRIGGERS)
         return Causes(told.time_ds, tco, sb, eb, over, warn, serv, emer)
+
+    def would_cover(self, reading: Reading) -> bool:
+        """Whether the row of a reading would be covered, if it were the next one; its time doesn't count. CLOSED,
+        OUT_OF_RANGE."""
+        is_covered = c_uint32()
+        self._ask("sdm_would_cover", reading, ctypes.addressof(is_covered))
+        return bool(is_covered.value)
+
+    def would_cover_up_to(self, asked: Reading) -> bool:
+        """Whether a reading would cover each target past its min safe front end: then each reading up to it that asks
+        no more is covered, or in release speed monitoring (docs/INTEGRATION.md, "Before a gap"). CLOSED,
+        OUT_OF_RANGE."""
+        is_covered = c_uint32()
+        self._ask("sdm_would_cover_up_to", asked, ctypes.addressof(is_covered))
+        return bool(is_covered.value)
+
+    def has_trip_place(self, width_cm: int, excess_mm_s: int) -> bool:
+        """Whether the authority in force is an end whose release speed has a trip place, for readings that keep two
+        bounds until the train is tripped (docs/INTEGRATION.md, "A calculated release speed"). CLOSED, OUT_OF_RANGE."""
+        has_place = c_uint32()
+        self._numbers("sdm_has_trip_place", TripBounds(width_cm, excess_mm_s), ctypes.addressof(has_place))
+        return bool(has_place.value)
+
+    def clear_of(self, reading: Reading, allowance: Allowance = Allowance()) -> int | None:
+        """The first millimetre of the track by which the service brake stops the train of a reading, where it is beyond
+        the estimate and gains speed by the allowance at most; None where the track ends before it. CLOSED,
+        OUT_OF_RANGE."""
+        given = filled(ReadingStruct, checked(reading, Reading))
+        allowed, first = filled(AllowanceStruct, checked(allowance, Allowance)), PlaceStruct()
+        told: Record = reading if reading.fault() else allowance
+        self._call("sdm_clear_of", told, *(ctypes.addressof(each) for each in (given, allowed, first)))
+        return first.mm if first.is_some else None
 
     def close(self) -> None:
         """Gives the memory back; of one that is closed nothing happens."""

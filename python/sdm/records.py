@@ -143,6 +143,27 @@ class Revocation(Record):
     id: int
 
 
+@dataclass(frozen=True)
+class Allowance(Record):
+    """What a train may be beyond its estimate at a reading, and gain after it: of no journey, so without a line."""
+
+    kind = "allowance"
+    ranges = ((0, 10_000_000), (0, 10_000), (0, 300))
+    front_mm: int = 0
+    speed_mm_s: int = 0
+    accel_cm_s2: int = 0
+
+
+@dataclass(frozen=True)
+class TripBounds(Record):
+    """What readings keep until the train is tripped: of no journey, so without a line."""
+
+    kind = "trip bounds"
+    ranges = ((0, 2**32 - 1), (0, 2**32 - 1))
+    width_cm: int
+    excess_mm_s: int
+
+
 RECORDS: tuple[type[Record], ...] = (Reading, End, EndCalculated, Limit, Restriction, Revocation)
 FORMS = {made.kind: made for made in RECORDS}
 

@@ -137,6 +137,25 @@ class Standing(Word):
     HELD_TO_EITHER = "held until standstill or permitted speed"
 
 
+class Field(IntEnum):
+    """A number of a struct that is outside its range."""
+
+    NO_FIELD = 0
+    READING_TIME_DS = 1
+    READING_EST_MM = 2
+    READING_MIN_MM = 3
+    READING_MAX_MM = 4
+    READING_SPEED_MM_S = 5
+    READING_ACCEL_CM_S2 = 6
+    READING_UNDER_MM_S = 7
+    RESTRICTION_ID = 8
+    RESTRICTION_SPEED_KMH = 9
+    RESTRICTION_IS_DELAYED = 10
+    ALLOWANCE_FRONT_MM = 11
+    ALLOWANCE_SPEED_MM_S = 12
+    ALLOWANCE_ACCEL_CM_S2 = 13
+
+
 STATES, SUPERVISIONS, TARGETS = ("".join(words) for words in (State, Supervision, Target))  # by their numbers
 RULES = ("-", *list(Rule)[1:])
 STANDINGS = tuple(Standing)

@@ -66,6 +66,11 @@ def calls(header: str) -> list[Call]:
     ]
 
 
+def texts(header: str) -> set[str]:
+    """The calls that tell a text: they are in C, and the crate has no code of theirs."""
+    return {call.name for call in calls(header) if call.prototype.startswith("const char *")}
+
+
 def opening(header: str) -> list[str]:
     """The paragraphs of the comment with which the header begins."""
     return [joined(part) for part in re.split(r"^ \*$", header[len("/*") : header.index("*/")], flags=re.M)]
@@ -74,6 +79,11 @@ def opening(header: str) -> list[str]:
 def layout(header: str) -> int:
     """The number of the layout."""
     return int(re.findall(r"^#define SDM_LAYOUT (\d+)u$", header, re.M)[0])
+
+
+def version(header: str) -> int:
+    """The version, as a number."""
+    return int(re.findall(r"^#define SDM_VERSION (\d+)u ", header, re.M)[0])
 
 
 def types(header: str) -> list[str]:

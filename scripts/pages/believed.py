@@ -200,6 +200,10 @@ C = Claim(
             "sdm_take_over",
             "sdm_display",
             "sdm_causes",
+            "sdm_would_cover",
+            "sdm_would_cover_up_to",
+            "sdm_has_trip_place",
+            "sdm_clear_of",
             "sdm_close",
         )
     ],

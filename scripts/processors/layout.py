@@ -21,7 +21,6 @@ MEMBER = re.compile(r"\bSDM_(\w+) = (\d+)")
 NUMBERS = {"uint32_t": 4, "int32_t": 4, "int64_t": 8, "uint64_t": 8}
 HANDLE = "sdm"
 HANDLE_PLACE = "sdm_at"  # the type of what a handle holds, which is a place in memory
-IN_C_ALONE = "sdm_status_text"  # it has no code of the crate
 
 
 @dataclass(frozen=True)
@@ -117,9 +116,10 @@ def calls_of(header_text: str) -> list[Call]:
     for result, name, listed in PROTOTYPE.findall(header_text):
         listed = " ".join(listed.split())
         arguments = () if listed == "void" else tuple(argument(each) for each in listed.split(", "))
-        if name != IN_C_ALONE:
+        if name not in header.texts(header.text()):
             found.append(Call(name, result.strip(), f"{result}{name}({listed})", arguments))
-    declared = [call.name for call in header.calls(header.text()) if call.name != IN_C_ALONE]
+    texts = header.texts(header.text())
+    declared = [call.name for call in header.calls(header.text()) if call.name not in texts]
     must(
         [call.name for call in found] == declared, "the calls of c/sdm.h aren't read as scripts/c/header.py reads them"
     )

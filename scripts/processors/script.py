@@ -30,6 +30,7 @@ WRITES = {"uint32_t": "view.setUint32({}, {}, true)", "int32_t": "view.setInt32(
 # The enums of the header, as the Python package names them.
 ENUMS: dict[str, type[Enum]] = {
     "sdm_status": rows.Status,
+    "sdm_field": rows.Field,
     "sdm_state": rows.State,
     "sdm_supervision": rows.Supervision,
     "sdm_target": rows.Target,

@@ -6,6 +6,7 @@ import tempfile
 from collections.abc import Callable
 from pathlib import Path
 
+from scripts.c import header
 from scripts.processors import binary, layout
 from scripts.processors.machine import archived, text_of
 from scripts.processors.retarget import exporting, retargeted
@@ -58,13 +59,13 @@ def objects(bitcode: Path, heap: Path, scratch: Path, changed: Change) -> list[P
     return [
         compiled(changed(text), scratch / "module.o"),
         compiled_c(heap, BLOCKS, scratch / "heap.o"),
-        compiled_c(TEXTS, [layout.IN_C_ALONE], scratch / "texts.o"),
+        compiled_c(TEXTS, sorted(header.texts(header.text())), scratch / "texts.o"),
     ]
 
 
 def must_be_whole(module: bytes, name: str) -> None:
     """A fault where a module imports something, or exports something else than the calls, memory and blocks."""
-    due = {call: "function" for call in [*layout.names(), layout.IN_C_ALONE]} | OF_THE_HOST
+    due = {call: "function" for call in [*layout.names(), *header.texts(header.text())]} | OF_THE_HOST
     must(binary.imports(module) == 0, f"{name} imports something")
     found = binary.exports(module)
     must(found == due, f"{name} exports {' '.join(sorted(found))}, and not {' '.join(sorted(due))}")

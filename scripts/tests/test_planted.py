@@ -30,7 +30,7 @@ PARTS: dict[str, list[str]] = {
     "crates": ["docs", "scripts", "crates.txt"],
     "definitions": [*SPECS, "crates/*/proofs/*Cases.antt"],
     "imports": ["scripts", "python"],
-    "interface": ["c/sdm.h", "c/ada/sdm.ads", "crates/sdm_c/src/*", "scripts"],
+    "interface": ["c/sdm.h", "c/ada/sdm.ads", "crates/sdm_c/src/*", "CHANGELOG.md", "scripts"],
     "laboratory": [
         "examples",
         "scripts",

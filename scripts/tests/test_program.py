@@ -11,6 +11,7 @@ from itertools import chain
 from pathlib import Path
 
 from maker.misreadings import MISREADINGS
+from scripts.c import header
 from scripts.table import CHECKS, OTHERS, SHOWN, TRIES, WRITERS
 from scripts.tests import copies
 
@@ -281,9 +282,9 @@ class Answers(OverACopy):
         self.assertRegex(self.told(*AT_THE_CEILING), r"row \d+ differs")
 
 
-CALLS = ["open", "cycle", "end", "end_calculated", "limit", "restrict", "revoke", "take_over", "display", "causes"]
-CLOSED = "unsigned sdm_layout(void) { return 2; }\nvoid sdm_close(void *h) { (void)h; }\n" + "".join(
-    f"unsigned sdm_{call}(void *h) {{ (void)h; return 1; }}\n" for call in CALLS
+CALLS = [name for name, (_, given) in header.functions(header.text()).items() if given and not name.endswith("_text")]
+CLOSED = "unsigned sdm_layout(void) { return 2; }\nunsigned sdm_version(void) { return 0; }\n" + "".join(
+    f"unsigned {call}(void *h) {{ (void)h; return 1; }}\n" for call in CALLS
 )
 
 
@@ -332,13 +333,13 @@ class Replays(OverACopy):
     def test_a_call_whose_answer_may_be_overlooked_is_told(self) -> None:
         copies.alter(self.top, "c/sdm.h", r"^SDM_MUST_CHECK (uint32_t sdm_revoke)", r"\1")
         self.assertIn(
-            "cc warns of 9 answers that aren't looked at, of 9",
+            "cc warns of 13 answers that aren't looked at, of 13",
             self.told("scripts/house", "check", "c", self.library()),
         )
         copies.alter(self.top, "c/sdm.h", r"^uint32_t sdm_revoke", "SDM_MUST_CHECK uint32_t sdm_revoke")
         copies.alter(self.top, "c/sdm.h", r"^#elif defined\(__GNUC__\)", "#elif 0")
         self.assertIn(
-            "cc warns of 0 answers that aren't looked at, of 10",
+            "cc warns of 0 answers that aren't looked at, of 14",
             self.told("scripts/house", "check", "c", self.library()),
         )
 

@@ -21,7 +21,7 @@ CALLS = tuple(call.name for call in header.calls(TEXT))
 RELEASE = Release(
     "1.2.3", "c0ffee", 1_700_000_000, "A Builder <builder@example.org>", "kit", "sum", header.layout(TEXT), CALLS
 )
-ANSWERS = "".join(f"unsigned {call}(void) {{ return helper(); }}\n" for call in CALLS if call != "sdm_status_text")
+ANSWERS = "".join(f"unsigned {call}(void) {{ return helper(); }}\n" for call in CALLS if call not in header.texts(TEXT))
 MORE = "unsigned helper(void); unsigned helper(void) { return 1; }\n"
 
 
@@ -55,7 +55,9 @@ class Header(unittest.TestCase):
 
     def test_each_answer_that_is_a_status_must_be_checked(self) -> None:
         unchecked = {call.name for call in header.calls(TEXT) if not call.must_be_checked}
-        self.assertEqual(unchecked, {"sdm_layout", "sdm_status_text", "sdm_close"})
+        asked = {"sdm_layout", "sdm_version", "sdm_reading_field", "sdm_restriction_field", "sdm_allowance_field"}
+        texts = {f"sdm_{each}_text" for each in ("status", "state", "supervision", "rule", "field")}
+        self.assertEqual(unchecked, {*asked, *texts, "sdm_close"})
 
     def test_each_language_has_each_status_by_its_number(self) -> None:
         wrapper, binding = ((copies.TOP / "c" / name).read_text() for name in ("sdm.hpp", "ada/sdm.ads"))

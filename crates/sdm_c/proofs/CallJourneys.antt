@@ -153,6 +153,10 @@ module _ (s : Supervision) (w : Written) (opening : Result Supervision ℕ) (bef
   one n calls.TakeOver later rest same = same n
   one n (calls.Display r) later rest same = same n
   one n (calls.Causes r) later rest same = same n
+  one n (calls.WouldCover r) later rest same = same n
+  one n (calls.WouldCoverUpTo r) later rest same = same n
+  one n (calls.HasTripPlace width excess) later rest same = same n
+  one n (calls.ClearOf r a) later rest same = same n
   one n calls.Close later rest same = same n
 
   -- which supervisor it leaves
@@ -167,6 +171,10 @@ module _ (s : Supervision) (w : Written) (opening : Result Supervision ℕ) (bef
   stays calls.TakeOver is = absurd cc
   stays (calls.Display r) is = refl
   stays (calls.Causes r) is = refl
+  stays (calls.WouldCover r) is = refl
+  stays (calls.WouldCoverUpTo r) is = refl
+  stays (calls.HasTripPlace width excess) is = refl
+  stays (calls.ClearOf r a) is = refl
   stays calls.Close is = absurd cc
 
 both : (a b : Bool) → IsTrue (a && b) → IsTrue a × IsTrue b

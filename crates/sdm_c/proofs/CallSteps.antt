@@ -133,6 +133,10 @@ module _ (s : Supervision) (before : Option Supervision) where
   judged_call calls.TakeOver q w is = absurd (none-some q is)
   judged_call (calls.Display r) q w is = absurd (none-some q is)
   judged_call (calls.Causes r) q w is = absurd (none-some q is)
+  judged_call (calls.WouldCover r) q w is = absurd (none-some q is)
+  judged_call (calls.WouldCoverUpTo r) q w is = absurd (none-some q is)
+  judged_call (calls.HasTripPlace width excess) q w is = absurd (none-some q is)
+  judged_call (calls.ClearOf r a) q w is = absurd (none-some q is)
   judged_call calls.Close q w is = absurd (none-some q is)
 
   -- and where none is judged, none is done
@@ -147,6 +151,10 @@ module _ (s : Supervision) (before : Option Supervision) where
   unjudged_call calls.TakeOver is = refl
   unjudged_call (calls.Display r) is = refl
   unjudged_call (calls.Causes r) is = refl
+  unjudged_call (calls.WouldCover r) is = refl
+  unjudged_call (calls.WouldCoverUpTo r) is = refl
+  unjudged_call (calls.HasTripPlace width excess) is = refl
+  unjudged_call (calls.ClearOf r a) is = refl
   unjudged_call calls.Close is = refl
 
 -- ---- one step

@@ -11,3 +11,5 @@ pub mod CallSteps
 pub mod CallCases
 pub mod OpeningCases
 pub mod CallLawCases
+pub mod ClearPlaces
+pub mod FirstOut

@@ -19,9 +19,10 @@ use Rattle.sdm_c.specs.declared.structs.ReadingC.{ReadingC}
 use Rattle.sdm_c.specs.declared.structs.RestrictionC.{RestrictionC}
 use Rattle.sdm_c.specs.Lending.{with_state}
 use Rattle.sdm_c.specs.Numbers.{reading_from, restriction_from}
-use Rattle.sdm_c.specs.CallLists.{Asked, IsMade, MayComeTo, after_change, after_record, record_of, supervisor_in, told}
-use Rattle.sdm_c.specs.Statuses.{IsOpen, authority_answer, calculated_answer, cycle_answer, cycle_status, display_answer}
-use Rattle.sdm_c.specs.Statuses.{display_status, end_calculated_status, end_status, in_use, is_open_status}
+use Rattle.sdm_c.specs.CallLists.{Asked, IsMade, MayComeTo, after_change, after_record, answer, answer_closed, left}
+use Rattle.sdm_c.specs.CallLists.{record_of, supervisor_in, told}
+use Rattle.sdm_c.specs.Statuses.{IsOpen, authority_answer, calculated_answer, closed, cycle_answer, cycle_status}
+use Rattle.sdm_c.specs.Statuses.{end_calculated_status, end_status, in_use, is_open_status}
 use Rattle.sdm_c.specs.Statuses.{limit_status, restrict_answer, restriction_status, revocation_status, revoke_answer}
 use Rattle.sdm_c.specs.Statuses.{take_over_answer, take_over_status, unless_closed}
 use Rattle.sdm_c.proofs.OneCall.{answered, authority_does, calculated_does, change_answers, change_does, nothing_does}
@@ -52,24 +53,16 @@ module _ (given : List ℕ) (h now before : Handle) (w v : Written) (status : �
           (λ s. refl) (λ s. refl) (λ s. reading_does s r) refl is taken unchanged written kept,
     )
 
-    pub shown : (r : ReadingC) → status ≡ display_status h r → now ≡ h →
-        (status ≡ 0 → v ≡ told h.state (calls.Display r) w) → IsMadeBy (calls.Display r)
-    shown r is same written = (
+    -- a call that asks alone: it hands over nothing
+    pub asks : (c : Call) (n : ℕ) → ((s : Supervision) → answer s (supervisor_in before) c ≡ n) →
+        ((s : Supervision) → left s (supervisor_in before) c ≡ Some s) →
+        answer_closed (asked_by c (Err 3)) c w ≡ record { status = closed; supervisor = None; written = w } →
+        status ≡ unless_closed h (λ s. n) → now ≡ h → (status ≡ 0 → v ≡ told h.state c w) → IsMadeBy c
+    asks c n same_answer same_left none is same written = (
       Err 3,
       refl,
-      answered h now w v (asked_by (calls.Display r) (Err 3)) status
-          (λ s. display_answer r) (λ s. s) (λ s. s) (λ s. refl) (λ s. refl) (λ s. nothing_does (display_answer r) s) refl
-          is (λ z. same) unchanged written kept,
-    )
-
-    pub caused : (r : ReadingC) → status ≡ display_status h r → now ≡ h →
-        (status ≡ 0 → v ≡ told h.state (calls.Causes r) w) → IsMadeBy (calls.Causes r)
-    caused r is same written = (
-      Err 3,
-      refl,
-      answered h now w v (asked_by (calls.Causes r) (Err 3)) status
-          (λ s. display_answer r) (λ s. s) (λ s. s) (λ s. refl) (λ s. refl) (λ s. nothing_does (display_answer r) s) refl
-          is (λ z. same) unchanged written kept,
+      answered h now w v (asked_by c (Err 3)) status (λ s. n) (λ s. s) (λ s. s) same_answer same_left
+          (λ s. nothing_does n s) none is (λ z. same) unchanged written kept,
     )
 
   module _ (same : v ≡ w) (unchanged : ¬ (status ≡ 0) → now ≡ h) where

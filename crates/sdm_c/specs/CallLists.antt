@@ -9,16 +9,21 @@ use Rattle.sdm_rules.specs.Supervision.{Supervision, row_of}
 use Rattle.sdm_rules.specs.TakeOver.{taken_over}
 use Rattle.sdm_causes.specs.Causes.{causes_of}
 use Rattle.sdm_rules.specs.Display.{display_of}
+use Rattle.sdm_laws.specs.TripPlaces.{has_trip_place}
+use Rattle.sdm_ahead.specs.WhatIfs.{would_cover_from}
 use Rattle.sdm_ride.specs.Orders.{taken_or}
+use Rattle.sdm_supervisor.specs.Supervised.{bounds_of}
 use Rattle.sdm_opening.specs.Openings.{IsOpeningOf}
 use Rattle.sdm_c.specs.declared.call_lists.Call.{Call}
 use Rattle.sdm_c.specs.declared.call_lists.Call.TheVariants as calls
 use Rattle.sdm_c.specs.declared.call_lists.Written.{Written}
 use Rattle.sdm_c.specs.declared.handle.Handle.{Handle}
-use Rattle.sdm_c.specs.Codes.{causes_in_c, display_in_c, row_in_c}
+use Rattle.sdm_c.specs.Clearances.{first_clear_in_c}
+use Rattle.sdm_c.specs.Codes.{causes_in_c, display_in_c, flag, row_in_c}
 use Rattle.sdm_c.specs.Numbers.{is_identity, is_reading, is_restriction, reading_from, restriction_from}
-use Rattle.sdm_c.specs.Statuses.{authority_answer, bad_data, calculated_answer, closed, cycle_answer, display_answer}
-use Rattle.sdm_c.specs.Statuses.{done, in_use, no_memory, refused, restrict_answer, revoke_answer, take_over_answer}
+use Rattle.sdm_c.specs.Statuses.{authority_answer, bad_data, calculated_answer, clear_answer, closed, cycle_answer}
+use Rattle.sdm_c.specs.Statuses.{display_answer, done, in_use, no_memory, refused, restrict_answer, revoke_answer}
+use Rattle.sdm_c.specs.Statuses.{take_over_answer}
 
 -- ---- ONE CALL
 
@@ -83,6 +88,10 @@ answer s before (calls.Revoke id) = revoke_answer s id
 answer s before calls.TakeOver = change_answer s before
 answer s before (calls.Display r) = display_answer r
 answer s before (calls.Causes r) = display_answer r
+answer s before (calls.WouldCover r) = display_answer r
+answer s before (calls.WouldCoverUpTo r) = display_answer r
+answer s before (calls.HasTripPlace width excess) = done
+answer s before (calls.ClearOf r a) = clear_answer r a
 answer s before calls.Close = done
 
 -- what is written by a call that is done (own)
@@ -90,6 +99,12 @@ abbrev pub told : Supervision → Call → Written → Written
 told s (calls.Cycle r) w = record w { row = row_in_c (row_of s (reading_from r)) }
 told s (calls.Display r) w = record w { display = display_in_c (display_of s (reading_from r)) }
 told s (calls.Causes r) w = record w { causes = causes_in_c (causes_of s (reading_from r)) }
+told s (calls.WouldCover r) w = record w { is_covered = flag (row_of s (reading_from r)).covered }
+told s (calls.WouldCoverUpTo r) w =
+    record w { is_covered = flag (would_cover_from s (reading_from r).min (reading_from r)) }
+told s (calls.HasTripPlace width excess) w =
+    record w { has_place = flag (has_trip_place (bounds_of width excess) s.train_and_track s.authority) }
+told s (calls.ClearOf r a) w = record w { first = first_clear_in_c s r a }
 told s other w = w
 
 -- ---- A LIST OF CALLS

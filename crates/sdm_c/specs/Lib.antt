@@ -3,8 +3,10 @@ pub mod Held
 pub mod Lending
 pub mod Codes
 pub mod Numbers
+pub mod Fields
 pub mod Statuses
 pub mod Openings
+pub mod Clearances
 pub mod CallLists
 pub mod CallRows
 pub mod CallRides

@@ -3,6 +3,9 @@ use Rattle.std.specs.Prelude.{ℕ, ℤ, pos, negsuc, Bool, ◌&&◌, ◌==◌, n
 use Rattle.sdm_num.specs.Readings.{OdometerReading, reading_of}
 use Rattle.sdm_rules.specs.declared.restrictions.Restriction.{Restriction}
 use Rattle.sdm_rules.specs.Ranges.{is_within, top_kmh}
+use Rattle.sdm_row_laws.specs.Clearances.{Allowance}
+use Rattle.sdm_supervisor.specs.Clearances.{allowance_of}
+use Rattle.sdm_c.specs.declared.structs.AllowanceC.{AllowanceC}
 use Rattle.sdm_c.specs.declared.structs.ReadingC.{ReadingC}
 use Rattle.sdm_c.specs.declared.structs.RestrictionC.{RestrictionC}
 
@@ -55,3 +58,11 @@ restriction_from r = record {
 -- (own)
 abbrev pub kmh_taken : ℕ → ℕ
 kmh_taken kmh = if nat_le kmh 65_535 then kmh else 65_535
+
+-- the numbers of an allowance are in their ranges (own)
+abbrev pub is_allowance : AllowanceC → Bool
+is_allowance a = nat_le a.front_mm 10_000_000 && nat_le a.speed_mm_s 10_000 && nat_le a.accel_cm_s2 300
+
+-- the allowance of these numbers (own)
+abbrev pub allowance_from : AllowanceC → Allowance
+allowance_from a = allowance_of a.front_mm a.speed_mm_s a.accel_cm_s2

@@ -1,6 +1,6 @@
 -- The status of each call, as a function of the supervision state and the numbers passed (own). A call with several
 -- faults returns the first of these: the handle is closed, a number is outside its range, the supervisor refuses.
-use Rattle.std.specs.Prelude.{◌≡◌, ℕ, Bool, Option, Some, None, ◌==◌, ◌||◌, if◌then◌else◌}
+use Rattle.std.specs.Prelude.{◌≡◌, ℕ, Bool, Option, Some, None, ◌==◌, ◌&&◌, ◌||◌, if◌then◌else◌}
 use Rattle.sdm_rules.specs.declared.authorities.Authority.{Authority}
 use Rattle.sdm_rules.specs.declared.authorities.Authority.TheVariants.{Stop, Limit}
 use Rattle.sdm_rules.specs.declared.faults.AuthorityFault.{AuthorityFault}
@@ -16,10 +16,11 @@ use Rattle.sdm_rules.specs.Records.{authority_fault, restrict_fault, revoke_faul
 use Rattle.sdm_rules.specs.Supervision.{Supervision}
 use Rattle.sdm_rules.specs.TakeOver.{take_over_fault}
 use Rattle.sdm_supervisor.specs.TakeOvers.{is_fresh}
+use Rattle.sdm_c.specs.declared.structs.AllowanceC.{AllowanceC}
 use Rattle.sdm_c.specs.declared.structs.ReadingC.{ReadingC}
 use Rattle.sdm_c.specs.declared.structs.RestrictionC.{RestrictionC}
 use Rattle.sdm_c.specs.declared.handle.Handle.{Handle}
-use Rattle.sdm_c.specs.Numbers.{is_identity, is_reading, is_restriction, restriction_from}
+use Rattle.sdm_c.specs.Numbers.{is_allowance, is_identity, is_reading, is_restriction, restriction_from}
 
 -- ---- THE NUMBERS of `enum sdm_status`, as C has them
 
@@ -161,9 +162,13 @@ take_over_answer next before =
     if is_fresh next then change_status (take_over_fault next.train_and_track.track.length_cm before.restrictions)
     else not_fresh
 
--- of a call for what a driver is shown at a reading, or for its causes (own)
+-- of a call that asks about a reading: what a driver is shown, its causes, whether it would be covered (own)
 abbrev pub display_answer : ReadingC → ℕ
 display_answer r = in_range (is_reading r) done
+
+-- of a call for the first place that a reading is clear of with an allowance (own)
+abbrev pub clear_answer : ReadingC → AllowanceC → ℕ
+clear_answer r a = in_range (is_reading r && is_allowance a) done
 
 -- ---- of a call with a handle
 
@@ -207,6 +212,14 @@ revocation_status h id = unless_closed h (λ s. revoke_answer s id)
 abbrev pub take_over_status : Handle → Handle → ℕ
 take_over_status next before = unless_closed next (λ n. unless_closed before (λ b. take_over_answer n b))
 
--- of `sdm_display` and `sdm_causes` (own)
+-- of `sdm_display`, `sdm_causes`, `sdm_would_cover` and `sdm_would_cover_up_to` (own)
 abbrev pub display_status : Handle → ReadingC → ℕ
 display_status h r = unless_closed h (λ s. display_answer r)
+
+-- of `sdm_has_trip_place` (own)
+abbrev pub trip_place_status : Handle → ℕ
+trip_place_status h = unless_closed h (λ s. done)
+
+-- of `sdm_clear_of` (own)
+abbrev pub clear_status : Handle → ReadingC → AllowanceC → ℕ
+clear_status h r a = unless_closed h (λ s. clear_answer r a)

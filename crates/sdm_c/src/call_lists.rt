@@ -6,10 +6,11 @@ ghost use Rattle.sdm_c.specs.CallLists.{IsMade, MayComeTo, supervisor_in};
 
 use crate::handle::Handle;
 use crate::statuses::DONE;
-use crate::structs::{CausesC, DisplayC, LineC, ReadingC, RestrictionC, RowC};
+use crate::structs::{AllowanceC, CausesC, DisplayC, LineC, PlaceC, ReadingC, RestrictionC, RowC};
 use crate::{
-    sdm_causes, sdm_close, sdm_cycle, sdm_display, sdm_end, sdm_end_calculated, sdm_limit,
-    sdm_open, sdm_restrict, sdm_revoke, sdm_take_over,
+    sdm_causes, sdm_clear_of, sdm_close, sdm_cycle, sdm_display, sdm_end, sdm_end_calculated,
+    sdm_has_trip_place, sdm_limit, sdm_open, sdm_restrict, sdm_revoke, sdm_take_over,
+    sdm_would_cover, sdm_would_cover_up_to,
 };
 use std::alloc::Global;
 
@@ -39,15 +40,29 @@ pub enum Call {
     TakeOver,
     Display(ReadingC),
     Causes(ReadingC),
+    WouldCover(ReadingC),
+    WouldCoverUpTo(ReadingC),
+    HasTripPlace {
+        width_cm: u32,
+        excess_mm_s: u32,
+    },
+    ClearOf {
+        reading: ReadingC,
+        allowance: AllowanceC,
+    },
     Close,
 }
 
-/// What calls wrote last: a row, a display, causes. (own)
+/// What calls wrote last: a row, a display, causes, whether readings would be covered, whether there is a trip place, a
+/// first place. (own)
 #[derive(Clone, Copy)]
 pub struct Written {
     pub row: RowC,
     pub display: DisplayC,
     pub causes: CausesC,
+    pub is_covered: u32,
+    pub has_place: u32,
+    pub first: PlaceC,
 }
 
 /// Makes a call on a handle. An opening reads a data part, and tells its line where it refuses that; a change of data
@@ -89,6 +104,15 @@ pub fn make(
         Call::TakeOver => sdm_take_over(h, before),
         Call::Display(reading) => sdm_display(h, &reading, &mut written.display),
         Call::Causes(reading) => sdm_causes(h, &reading, &mut written.causes),
+        Call::WouldCover(reading) => sdm_would_cover(h, &reading, &mut written.is_covered),
+        Call::WouldCoverUpTo(asked) => sdm_would_cover_up_to(h, &asked, &mut written.is_covered),
+        Call::HasTripPlace {
+            width_cm,
+            excess_mm_s,
+        } => sdm_has_trip_place(h, width_cm, excess_mm_s, &mut written.has_place),
+        Call::ClearOf { reading, allowance } => {
+            sdm_clear_of(h, &reading, &allowance, &mut written.first)
+        }
         Call::Close => {
             sdm_close(alloc, h);
             DONE

@@ -11,14 +11,14 @@ use sdm_rules::{Display, Row, Shown, State, Status, TargetKind};
 use sdm_text::RowBuf;
 
 /// A flag: 1 for true. (own)
-fn flag(b: bool) -> u32
+pub fn flag(b: bool) -> u32
     ensures { result ≡ flag b }
 {
     if b { 1 } else { 0 }
 }
 
 /// A place in mm, or none. (own)
-fn place(place: Option<i64>) -> PlaceC
+pub fn place(place: Option<i64>) -> PlaceC
     ensures { result ≡ place_in_c place }
 {
     match place {

@@ -7,6 +7,7 @@
 mod call_lists;
 mod calls;
 mod codes;
+mod fields;
 mod handle;
 pub mod laws;
 mod numbers;
@@ -16,32 +17,44 @@ mod statuses;
 mod structs;
 
 ghost use Rattle.std.specs.Prelude.{◌≡◌, ◌==◌, ◌↔◌, IsTrue};
+ghost use Rattle.sdm_num.specs.Readings.{OdometerReading};
+ghost use Rattle.sdm_num.specs.Units.{place_of_mm};
 ghost use Rattle.sdm_rules.specs.declared.authorities.Authority.TheVariants.{Limit, Stop};
+ghost use Rattle.sdm_rules.specs.declared.data.SlopeKind.TheVariants.{Expected};
+ghost use Rattle.sdm_rules.specs.Decelerations.{slopes_of};
 ghost use Rattle.sdm_rules.specs.Display.{display_of};
 ghost use Rattle.sdm_rules.specs.Machines.{KeepsOrder};
 ghost use Rattle.sdm_rules.specs.Promises.{BeginsReleaseMonitoring, HasOnlyGaps, IsWithinCeiling};
 ghost use Rattle.sdm_rules.specs.Release.{IsReleaseSpeed, calculated};
-ghost use Rattle.sdm_rules.specs.Stop.{IsSafe};
+ghost use Rattle.sdm_rules.specs.Stop.{IsSafe, StopsBy};
 ghost use Rattle.sdm_rules.specs.Supervision.{after_authority, after_reading, after_restriction, after_revocation};
 ghost use Rattle.sdm_rules.specs.Supervision.{row_of};
 ghost use Rattle.sdm_laws.specs.Falls.{MeetsFalls};
+ghost use Rattle.sdm_laws.specs.TripPlaces.{HasItsTrip, IsStopWithTrip, has_trip_place};
 ghost use Rattle.sdm_row_laws.specs.AllCommands.{KeepsAllOrder};
+ghost use Rattle.sdm_row_laws.specs.Clearances.{start_with};
 ghost use Rattle.sdm_row_laws.specs.CoveredFalls.{MeetsEachFall};
 ghost use Rattle.sdm_row_laws.specs.OpenTurns.{HasNearLimits};
 ghost use Rattle.sdm_row_laws.specs.ServiceStop.{CommandsNoBrake, StopsByItsEoa};
+ghost use Rattle.sdm_ahead.specs.WhatIfs.{AsksNoMoreFrom, IsCoveredOrReleased, would_cover_from};
 ghost use Rattle.sdm_rules.specs.TakeOver.{taken_over};
 ghost use Rattle.sdm_report.specs.OutcomeLines.{outcome_line};
 ghost use Rattle.sdm_causes.specs.Causes.{causes_of};
+ghost use Rattle.sdm_supervisor.specs.Supervised.{bounds_of};
 ghost use Rattle.sdm_opening.specs.Openings.{IsOpeningOf};
-ghost use Rattle.sdm_c.specs.Codes.{IsLine, causes_in_c, display_in_c, row_in_c};
+ghost use Rattle.sdm_c.specs.Clearances.{IsClearPlace};
+ghost use Rattle.sdm_c.specs.Codes.{IsLine, causes_in_c, display_in_c, flag, row_in_c};
+ghost use Rattle.sdm_c.specs.Fields.{allowance_field, reading_field, restriction_field};
 ghost use Rattle.sdm_c.specs.Lending.{IsInit, with_state};
+ghost use Rattle.sdm_c.specs.Numbers.{allowance_from, is_allowance, is_reading, is_restriction};
 ghost use Rattle.sdm_c.specs.Numbers.{reading_from, restriction_from};
 ghost use Rattle.sdm_c.specs.Openings.{IsBadData, IsRefused};
-ghost use Rattle.sdm_c.specs.Statuses.{IsOpen, cycle_status, display_status, end_calculated_status, end_status};
+ghost use Rattle.sdm_c.specs.Statuses.{IsOpen, clear_status, cycle_status, display_status, end_calculated_status};
+ghost use Rattle.sdm_c.specs.Statuses.{end_status, trip_place_status};
 ghost use Rattle.sdm_c.specs.Statuses.{limit_status, is_open_status, restriction_status, revocation_status};
 ghost use Rattle.sdm_c.specs.Statuses.{take_over_status};
 
-use codes::{put_line, row_in_c};
+use codes::{flag, put_line, row_in_c};
 use handle::Handle;
 use numbers::reading_from;
 use openings::opened_on_heap;
@@ -51,7 +64,7 @@ use sdm_report::{Outcome, outcome_bytes};
 use sdm_text::RowBuf;
 use statuses::{BAD_DATA, CLOSED, DONE, IN_USE, NO_MEMORY, OUT_OF_RANGE, REFUSED, TIME_BACK};
 use std::alloc::Global;
-use structs::{CausesC, DisplayC, LineC, ReadingC, RestrictionC, RowC};
+use structs::{AllowanceC, CausesC, DisplayC, LineC, PlaceC, ReadingC, RestrictionC, RowC};
 
 /// The number of the layout of `sdm.h`.
 pub const LAYOUT: u32 = 2;
@@ -62,6 +75,17 @@ pub extern "C" fn sdm_layout() -> u32
     ensures { result ≡ 2 }
 {
     LAYOUT
+}
+
+/// The version of the library: 1,000,000 for each first number of it, 1,000 for each second and 1 for each third.
+pub const VERSION: u32 = 11_001;
+
+/// The version of the library, as a number. (own)
+#[unsafe(no_mangle)]
+pub extern "C" fn sdm_version() -> u32
+    ensures { result ≡ 11_001 }
+{
+    VERSION
 }
 
 /// Writes the line of an outcome.
@@ -174,6 +198,7 @@ pub extern "C" fn sdm_end_calculated(h: &mut Handle, eoa_cm: u32, svl_cm: u32, t
         (Stop eoa_cm svl_cm (calculated h.old.state.train_and_track svl_cm trip_cm))) }
     ensures stops { result ≡ DONE → IsReleaseSpeed h.old.state.train_and_track svl_cm trip_cm
         (calculated h.old.state.train_and_track svl_cm trip_cm) }
+    ensures trip { result ≡ DONE → HasItsTrip h.old.state.train_and_track eoa_cm svl_cm trip_cm }
     ensures unchanged { ¬ (result ≡ DONE) → h.new ≡ h.old }
 {
     if !h.is_open() {
@@ -267,6 +292,123 @@ pub extern "C" fn sdm_causes(h: &mut Handle, reading: &ReadingC, causes: &mut Ca
         return CLOSED;
     }
     calls::causes(h.supervisor(), *reading, causes)
+}
+
+/// Writes whether the row of a reading would be covered, if it were the next one. Its time doesn't count but for its
+/// range. (own)
+#[unsafe(no_mangle)]
+pub extern "C" fn sdm_would_cover(h: &mut Handle, reading: &ReadingC, is_covered: &mut u32) -> u32
+    ensures status { result ≡ display_status h.old reading.now }
+    ensures value { result ≡ DONE →
+        is_covered.new ≡ flag (row_of h.old.state (reading_from reading.now)).covered }
+    ensures same_flag { ¬ (result ≡ DONE) → is_covered.new ≡ is_covered.old }
+    ensures unchanged { h.new ≡ h.old }
+{
+    if !h.is_open() {
+        return CLOSED;
+    }
+    calls::would_cover(h.supervisor(), *reading, is_covered)
+}
+
+/// Writes whether a reading would cover each target past its min safe front end. Then every reading is covered, or in
+/// release speed monitoring, whose max safe front end lies from there to that of this reading, and whose V_est +
+/// V_delta0 and acceleration are at most those of this one. (own)
+#[unsafe(no_mangle)]
+pub extern "C" fn sdm_would_cover_up_to(
+    h: &mut Handle,
+    asked: &ReadingC,
+    is_covered: &mut u32,
+) -> u32
+    ensures status { result ≡ display_status h.old asked.now }
+    ensures value { result ≡ DONE → is_covered.new
+        ≡ flag (would_cover_from h.old.state (reading_from asked.now).min (reading_from asked.now)) }
+    ensures covers { result ≡ DONE → is_covered.new ≡ 1 → (r : OdometerReading) →
+        AsksNoMoreFrom h.old.state.train_and_track (reading_from asked.now).min (reading_from asked.now) r →
+        IsCoveredOrReleased h.old.state r }
+    ensures same_flag { ¬ (result ≡ DONE) → is_covered.new ≡ is_covered.old }
+    ensures unchanged { h.new ≡ h.old }
+{
+    if !h.is_open() {
+        return CLOSED;
+    }
+    calls::would_cover_up_to(h.supervisor(), *asked, is_covered)
+}
+
+/// Writes whether the authority in force is a stop whose release speed has a trip place, for readings that keep two
+/// bounds until the train is tripped. (own)
+#[unsafe(no_mangle)]
+pub extern "C" fn sdm_has_trip_place(
+    h: &mut Handle,
+    width_cm: u32,
+    excess_mm_s: u32,
+    has_place: &mut u32,
+) -> u32
+    ensures status { result ≡ trip_place_status h.old }
+    ensures told { result ≡ DONE → has_place.new ≡ flag (has_trip_place (bounds_of width_cm excess_mm_s)
+        h.old.state.train_and_track h.old.state.authority) }
+    ensures trip { result ≡ DONE → (has_place.new ≡ 1 ↔ IsStopWithTrip (bounds_of width_cm excess_mm_s)
+        h.old.state.train_and_track h.old.state.authority) }
+    ensures same_flag { ¬ (result ≡ DONE) → has_place.new ≡ has_place.old }
+    ensures unchanged { h.new ≡ h.old }
+{
+    if !h.is_open() {
+        return CLOSED;
+    }
+    *has_place = flag(h.supervisor().has_trip_place(width_cm, excess_mm_s));
+    DONE
+}
+
+/// Writes the first place of the track, in mm, that a reading is clear of with an allowance, or none: from there the
+/// service brake stops the train at or before it. (SUBSET-026-3 3.13.9.3.3; own)
+#[unsafe(no_mangle)]
+pub extern "C" fn sdm_clear_of(
+    h: &mut Handle,
+    reading: &ReadingC,
+    allowance: &AllowanceC,
+    first: &mut PlaceC,
+) -> u32
+    ensures status { result ≡ clear_status h.old reading.now allowance.now }
+    ensures first { result ≡ DONE →
+        IsClearPlace h.old.state.train_and_track reading.now allowance.now first.new }
+    ensures stops { result ≡ DONE → first.new.is_some ≡ 1 →
+        StopsBy (slopes_of Expected h.old.state.train_and_track)
+        (start_with (allowance_from allowance.now) h.old.state.train_and_track (reading_from reading.now))
+        (place_of_mm first.new.mm) }
+    ensures same_place { ¬ (result ≡ DONE) → first.new ≡ first.old }
+    ensures unchanged { h.new ≡ h.old }
+{
+    if !h.is_open() {
+        return CLOSED;
+    }
+    calls::clear_of(h.supervisor(), *reading, *allowance, first)
+}
+
+/// The first number of a reading that is out of its range, 0 for none: by which a call that asks for the reading returns
+/// OUT_OF_RANGE. (own)
+#[unsafe(no_mangle)]
+pub extern "C" fn sdm_reading_field(reading: &ReadingC) -> u32
+    ensures value { result ≡ reading_field reading.now }
+    ensures in_range { result ≡ 0 ↔ IsTrue (is_reading reading.now) }
+{
+    fields::of_reading(*reading)
+}
+
+/// The first of a restriction's identity, speed and flag that is out of its range, 0 for none. (own)
+#[unsafe(no_mangle)]
+pub extern "C" fn sdm_restriction_field(restriction: &RestrictionC) -> u32
+    ensures value { result ≡ restriction_field restriction.now }
+    ensures in_range { result ≡ 0 ↔ IsTrue (is_restriction restriction.now) }
+{
+    fields::of_restriction(*restriction)
+}
+
+/// The first number of an allowance that is out of its range, 0 for none. (own)
+#[unsafe(no_mangle)]
+pub extern "C" fn sdm_allowance_field(allowance: &AllowanceC) -> u32
+    ensures value { result ≡ allowance_field allowance.now }
+    ensures in_range { result ≡ 0 ↔ IsTrue (is_allowance allowance.now) }
+{
+    fields::of_allowance(*allowance)
 }
 
 /// Gives the memory back; a handle without a supervisor stays as it is. (own)

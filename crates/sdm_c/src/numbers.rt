@@ -3,12 +3,13 @@
 ghost use Rattle.std.specs.Prelude.{◌≡◌, IsTrue};
 ghost use Rattle.std.specs.Option.{SomeIff};
 ghost use Rattle.sdm_num.specs.Readings.{IsReading};
-ghost use Rattle.sdm_c.specs.Numbers.{is_acceleration, is_identity, is_reading, is_restriction};
-ghost use Rattle.sdm_c.specs.Numbers.{kmh_taken, reading_from, restriction_from};
+ghost use Rattle.sdm_c.specs.Numbers.{allowance_from, is_acceleration, is_allowance, is_identity, is_reading};
+ghost use Rattle.sdm_c.specs.Numbers.{is_restriction, kmh_taken, reading_from, restriction_from};
 
-use crate::structs::{ReadingC, RestrictionC};
+use crate::structs::{AllowanceC, ReadingC, RestrictionC};
 use sdm_num::Reading;
 use sdm_rules::{Restriction, TOP_KMH};
+use sdm_supervisor::Allowance;
 
 /// The acceleration of a reading in cm/s²; None exactly where it is out of its range.
 fn accel_in(reading: ReadingC) -> Option<i16>
@@ -45,6 +46,20 @@ pub fn reading_from(reading: ReadingC) -> Option<Reading>
         return None;
     };
     reading_with(reading, accel)
+}
+
+/// The allowance of these numbers; None exactly where one of them is out of its range. (own)
+pub fn allowance_from(allowance: AllowanceC) -> Option<Allowance>
+    ensures { SomeIff result (IsTrue (is_allowance allowance)) (allowance_from allowance) }
+{
+    if allowance.accel_cm_s2 > 300 {
+        return None;
+    }
+    Allowance::new(
+        allowance.front_mm,
+        allowance.speed_mm_s,
+        allowance.accel_cm_s2 as u16,
+    )
 }
 
 /// A speed in km/h of an authority. One that is too great for any is taken as the greatest number of 16 bits, which is

@@ -79,6 +79,18 @@ pub struct RestrictionC {
     pub is_delayed: u32,
 }
 
+/// What a train may be beyond its estimate at a reading, and gain after it: `struct sdm_allowance`.
+#[repr(C)]
+#[derive(Clone, Copy)]
+pub struct AllowanceC {
+    /// How far it may be past the estimated front end, in mm.
+    pub front_mm: u32,
+    /// How much faster it may be than V_est, in mm/s.
+    pub speed_mm_s: u32,
+    /// With which acceleration it may gain speed, in cm/s².
+    pub accel_cm_s2: u32,
+}
+
 /// What the driver can be shown of a reading: `struct sdm_display`.
 #[repr(C)]
 #[derive(Clone, Copy)]
@@ -159,6 +171,8 @@ const _: () = prove!(size_of::<PlaceC>() == 16);
 const _: () = prove!(size_of::<RowC>() == 112);
 
 const _: () = prove!(size_of::<RestrictionC>() == 20);
+
+const _: () = prove!(size_of::<AllowanceC>() == 12);
 
 const _: () = prove!(size_of::<DisplayC>() == 40);
 

@@ -15,12 +15,14 @@ STRUCTS = {
     "sdm_place": library.PlaceStruct,
     "sdm_row": library.RowStruct,
     "sdm_restriction": library.RestrictionStruct,
+    "sdm_allowance": library.AllowanceStruct,
     "sdm_display": library.DisplayStruct,
     "sdm_cause": library.CauseStruct,
     "sdm_causes": library.CausesStruct,
 }
 ENUMS = {
     "sdm_status": rows.Status,
+    "sdm_field": rows.Field,
     "sdm_state": rows.State,
     "sdm_supervision": rows.Supervision,
     "sdm_target": rows.Target,
