@@ -4,6 +4,9 @@
  *     replay run       the rows of `sdm run`
  *     replay display   the lines of `sdm display`
  *     replay why       the lines of `sdm why`
+ *     replay ask       what else may be asked of each reading, for which the program has no command: its time, whether it
+ *                      would be covered, whether each up to it would be, whether the authority in force has a trip place
+ *                      for its bounds, and the first place that it is clear of with them
  *
  * Each word behind it names a file with a further input: a change of data. A supervisor that is opened over its data
  * takes over from the one before, and is handed its records, whose numbers go on. Where the change is refused, the exit
@@ -35,7 +38,7 @@ enum outcome {
 };
 
 /* What is told of each reading. */
-enum told { TOLD_ROWS, TOLD_DISPLAYS, TOLD_CAUSES };
+enum told { TOLD_ROWS, TOLD_DISPLAYS, TOLD_CAUSES, TOLD_ASKED };
 
 static enum outcome tell(enum outcome outcome, const char *line) {
     fprintf(stderr, "%s\n", line);
@@ -109,6 +112,31 @@ static uint32_t explain(struct sdm *h, const struct sdm_reading *reading) {
     return status;
 }
 
+/* Asks what the commands don't depend on, with the bounds of the reading itself. */
+static uint32_t ask(struct sdm *h, const struct sdm_reading *reading) {
+    const uint32_t width_cm = ((uint32_t)(reading->max_mm - reading->min_mm) + 9) / 10;
+    const uint32_t gain_cm_s2 = reading->accel_cm_s2 > 0 ? (uint32_t)reading->accel_cm_s2 : 0;
+    struct sdm_allowance allowance = {(uint32_t)(reading->max_mm - reading->est_mm), reading->under_mm_s, gain_cm_s2};
+    struct sdm_place first = {0, 0};
+    uint32_t is_covered = 0, is_each_covered = 0, has_place = 0;
+    if (allowance.front_mm > 10000000)
+        allowance.front_mm = 10000000;
+    uint32_t status = sdm_would_cover(h, reading, &is_covered);
+    if (status == SDM_DONE)
+        status = sdm_would_cover_up_to(h, reading, &is_each_covered);
+    if (status == SDM_DONE)
+        status = sdm_has_trip_place(h, width_cm, reading->under_mm_s, &has_place);
+    if (status == SDM_DONE)
+        status = sdm_clear_of(h, reading, &allowance, &first);
+    if (status == SDM_DONE) {
+        printf("%" PRIu32 ",%" PRIu32 ",%" PRIu32 ",%" PRIu32, reading->time_ds, is_covered, is_each_covered,
+               has_place);
+        put_place(first);
+        putchar('\n');
+    }
+    return status;
+}
+
 /* Writes what a reading leads to once its row is there. */
 static uint32_t put_reading(struct sdm *h, enum told told, const struct event *event, const struct sdm_row *row) {
     struct sdm_reading reading = event_reading(event);
@@ -117,6 +145,8 @@ static uint32_t put_reading(struct sdm *h, enum told told, const struct event *e
         return show(h, &reading);
     case TOLD_CAUSES:
         return explain(h, &reading);
+    case TOLD_ASKED:
+        return ask(h, &reading);
     case TOLD_ROWS:
         put_row(row);
     }
@@ -293,12 +323,12 @@ static enum outcome replay(enum told told, char **further) {
 }
 
 int main(int count, char **words) {
-    static const char *const commands[] = {"run", "display", "why"}; /* in the order of enum told */
+    static const char *const commands[] = {"run", "display", "why", "ask"}; /* in the order of enum told */
     unsigned told = 0;
-    while (count >= 2 && told <= TOLD_CAUSES && strcmp(words[1], commands[told]) != 0)
+    while (count >= 2 && told <= TOLD_ASKED && strcmp(words[1], commands[told]) != 0)
         told++;
-    if (count < 2 || told > TOLD_CAUSES)
-        return tell(OUTCOME_NOT_TAKEN, "usage: replay run|display|why [NEXT..] < INPUT");
+    if (count < 2 || told > TOLD_ASKED)
+        return tell(OUTCOME_NOT_TAKEN, "usage: replay run|display|why|ask [NEXT..] < INPUT");
     if (sdm_layout() != SDM_LAYOUT)
         return tell(OUTCOME_WRONG_LIBRARY, "replay: the library is of another layout than sdm.h");
     enum outcome outcome = replay((enum told)told, words + 2);

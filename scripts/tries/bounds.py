@@ -38,7 +38,9 @@ from sdm.laboratory.program import LIBRARY
 
 HERE = ROOT / "scripts" / "tries"
 PARTS = ["replay", "journey", "heap_malloc"]
-WORDS = {"sdm_display": "display", "sdm_causes": "why"}  # of replay, for the calls that `run` doesn't make
+ASKED = ("sdm_would_cover", "sdm_would_cover_up_to", "sdm_has_trip_place", "sdm_clear_of")
+# Of replay, for the calls that `run` doesn't make.
+WORDS = {"sdm_display": "display", "sdm_causes": "why", **dict.fromkeys(ASKED, "ask")}
 READINGS = 100  # of an input are counted at most
 AIMS = {"sdm_cycle": 2, "sdm_display": 5, "sdm_restrict": 5, "sdm_revoke": 5}  # times the most that is counted
 PAINTED = re.compile(r"^painted (\w+) (\d+)$", re.M)
@@ -203,7 +205,7 @@ class Played:
             folder = Path(scratch)
             stored = folder / "input"
             stored.write_bytes(data)
-            for word in ("run", "display", "why"):
+            for word in ("run", "display", "why", "ask"):
                 words = [word, str(stored)] if word == "run" else [word]  # the input again is a change of data
                 for call, stack in painted_in(self.painted, words, stored).items():
                     found.calls[call].stack = max(found.calls[call].stack, stack)
