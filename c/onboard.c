@@ -5,7 +5,7 @@
  *
  * Each word names a file with a further input, whose data take the place of the old ones in motion: a change of data.
  *
- * crates/sdm_onboard is the same in Rattle, and proved; this program is tested alone. */
+ * crates/sdm_onboard is the same in Rattle, and proved, but for the look ahead; this program is tested alone. */
 #include "journey.h"
 
 #include <inttypes.h>
@@ -40,6 +40,26 @@ static struct orders orders_of(const struct sdm_row *row, bool is_unsupervised) 
     return orders;
 }
 
+/* The most that a reading may ask until what the next turn orders works, with the traction on: 1 s later, where the train
+ * has gained 1 m/s². A builder has the train's own numbers, and what the odometer may add. */
+enum { AHEAD_MS = 1000, DRIVEN_CM_S2 = 100, GAIN_MM_S = DRIVEN_CM_S2 * AHEAD_MS / 100 };
+
+static struct sdm_reading most_asked(const struct sdm_reading *reading) {
+    struct sdm_reading asked = *reading;
+    int64_t fastest_mm_s = (int64_t)reading->speed_mm_s + reading->under_mm_s + GAIN_MM_S;
+    asked.est_mm = asked.max_mm = reading->max_mm + (int32_t)(fastest_mm_s * AHEAD_MS / 1000);
+    asked.speed_mm_s += GAIN_MM_S;
+    asked.accel_cm_s2 = reading->accel_cm_s2 > DRIVEN_CM_S2 ? reading->accel_cm_s2 : DRIVEN_CM_S2;
+    return asked;
+}
+
+/* Whether the traction is to be cut before a gap. A reading that asks for more than its ranges cuts it, too. */
+static bool is_gap_ahead(struct sdm *h, const struct sdm_reading *reading) {
+    struct sdm_reading asked = most_asked(reading);
+    uint32_t is_covered = 0;
+    return sdm_would_cover_up_to(h, &asked, &is_covered) != SDM_DONE || is_covered == 0;
+}
+
 /* Takes a reading. One that repeats the time of the last one tells nothing new: it is a missing one. One that is refused
  * isn't judged. To brake then is always enough. */
 static void take_reading(struct onboard *onboard, const struct sdm_reading *reading) {
@@ -51,6 +71,8 @@ static void take_reading(struct onboard *onboard, const struct sdm_reading *read
         return;
     }
     onboard->orders = orders_of(&row, onboard->is_authority_missing || onboard->is_restriction_missing);
+    if (row.state != SDM_RELEASE && is_gap_ahead(&onboard->supervisor, reading))
+        onboard->orders.cuts_traction = true;
     onboard->is_judged = true;
     onboard->last_time_ds = reading->time_ds;
 }
