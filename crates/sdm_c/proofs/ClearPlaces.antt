@@ -1,9 +1,9 @@
 -- What is written of a first clear place, or of none, is what the supervisor answers.
-use Rattle.std.proofs.Common.{◌≡◌, ◌∙◌, ◌⊎◌, ℕ, ℤ, zero, suc, pos, Bool, true, false, inl, inr, ◌&&◌, ◌+◌, ◌<◌, ◌≤◌}
-use Rattle.std.proofs.Common.{◌*ℤ◌, ◌≤ℤ◌, Option, Some, None, ap, arith, refl, sym}
+use Rattle.std.proofs.Common.{◌≡◌, ◌∙◌, ℕ, zero, suc, pos, Bool, true, false, inl, inr, ◌&&◌, ◌+◌, ◌<◌, ◌≤◌}
+use Rattle.std.proofs.Common.{◌*ℤ◌, Option, Some, None, ap, arith, refl, sym}
 use Rattle.std.proofs.lemmas.Bool.Decides.{eqb_tells}
 use Rattle.std.proofs.lemmas.Int.{ints}
-use Rattle.std.specs.Prelude.{IfSome, IsTrue, option_map, unsigned_abs, if◌then◌else◌}
+use Rattle.std.specs.Prelude.{IfSome, IsTrue, option_map, unsigned_abs}
 use Rattle.sdm_num.specs.Readings.{OdometerReading}
 use Rattle.sdm_num.specs.Units.{place_of_mm}
 use Rattle.sdm_rules.specs.declared.data.SlopeKind.TheVariants.{Expected}

@@ -2,7 +2,7 @@
 use Rattle.std.proofs.Common.{◌≡◌, ◌∙◌, ap, sym, inl, inr, ℕ, ℤ, suc, pos, negsuc, Bool, true, false, IsTrue, ◌&&◌, int_le, ◌≤ℤ◌, arith, refl}
 use Rattle.std.proofs.lemmas.Bool.Decides.{eqb_tells}
 use Rattle.std.proofs.lemmas.Int.{ints}
-use Rattle.std.specs.Prelude.{◌↔◌, ◌==◌, [], ◌∷◌, nat_le, if◌then◌else◌}
+use Rattle.std.specs.Prelude.{◌↔◌, [], ◌∷◌, nat_le, if◌then◌else◌}
 use Rattle.sdm_num.proofs.Comparisons.{le_is, le_of}
 use Rattle.sdm_rules.specs.Ranges.{is_within, top_kmh}
 use Rattle.sdm_c.specs.declared.structs.AllowanceC.{AllowanceC}
