@@ -28,9 +28,9 @@ extern "C" {
  * isn't listed here. */
 #define SDM_LAYOUT 2u
 
-/* The version of this header, as a number: 1,000,000 for each first number of it, 1,000 for each second and 1 for each
- * third. A program that uses a call of a later version than its least one asks #if SDM_VERSION; one that is linked with a
- * shared library compares sdm_version(), too. */
+/* The version of this header as a number: 1,000,000 for each of its first number, 1,000 for each of its second and 1 for
+ * each of its third. A program tests it before it uses a call that an older version lacks; sdm_version() says it of the
+ * library. */
 #define SDM_VERSION 11001u /* 0.11.1 */
 
 /* Makes compilers warn of a call whose status is ignored, where they can. */
@@ -229,7 +229,7 @@ struct sdm_causes {
 /* The number of the layout that the library was built for: SDM_LAYOUT, or the two don't belong together. */
 uint32_t sdm_layout(void);
 
-/* The version that the library was built from, in the form of SDM_VERSION. */
+/* The version of the library, in the form of SDM_VERSION. */
 uint32_t sdm_version(void);
 
 /* The text of a status: a few English words with a zero at their end, which stay as long as the program runs. They are
