@@ -38,7 +38,26 @@ static bool are_same_causes(const sdm_cpp::Causes &one, const sdm_cpp::Causes &o
            is_same_cause(one.serv, other.serv) && is_same_cause(one.emer, other.emer);
 }
 
-/* Judges a reading by both, and asks both for what a driver can be shown and for the causes. */
+/* Asks both whether a reading would be covered, whether the release speed has a trip place for its bounds, and for the
+ * first place that it is clear of. */
+static bool ask(Pair &pair, const struct sdm_reading &reading) {
+    const std::uint32_t width_cm = (static_cast<std::uint32_t>(reading.max_mm - reading.min_mm) + 9) / 10;
+    const sdm_cpp::Allowance allowance = {0, reading.under_mm_s, 0};
+    std::uint32_t is_covered = 0, is_each_covered = 0, has_place = 0;
+    struct sdm_place first = {};
+    if (sdm_would_cover(&pair.plain, &reading, &is_covered) != SDM_DONE ||
+        sdm_would_cover_up_to(&pair.plain, &reading, &is_each_covered) != SDM_DONE ||
+        sdm_has_trip_place(&pair.plain, width_cm, reading.under_mm_s, &has_place) != SDM_DONE ||
+        sdm_clear_of(&pair.plain, &reading, &allowance, &first) != SDM_DONE)
+        return false;
+    auto one = pair.wrapped.would_cover(reading), each = pair.wrapped.would_cover_up_to(reading);
+    auto trip = pair.wrapped.has_trip_place(width_cm, reading.under_mm_s);
+    auto clear = pair.wrapped.clear_of(reading, allowance);
+    return one && *one == (is_covered == 1) && each && *each == (is_each_covered == 1) && trip &&
+           *trip == (has_place == 1) && clear && *clear == sdm_cpp::place_mm(first);
+}
+
+/* Judges a reading by both, and asks both for what a driver can be shown, for the causes and for what else may be asked. */
 static bool read(Pair &pair, const struct event &event) {
     struct sdm_reading reading = event_reading(&event);
     struct sdm_row row = {};
@@ -56,7 +75,7 @@ static bool read(Pair &pair, const struct event &event) {
     sdm_cpp::Causes causes = {};
     due = Status(sdm_causes(&pair.plain, &reading, &causes));
     auto told = pair.wrapped.causes(reading);
-    return due == Status::done && told && are_same_causes(*told, causes);
+    return due == Status::done && told && are_same_causes(*told, causes) && ask(pair, reading);
 }
 
 /* What the wrapper answers to an event that is no reading. */
