@@ -21,11 +21,28 @@
 enum { STACK_BYTES = 1 << 20, PAINT = 0xa5, OPENINGS = 20, NOTHINGS = 10000 };
 
 /* The kinds of calls: those of an event as in enum event_kind, and then the others. */
-enum call { CALL_DISPLAY = EVENT_REVOKE + 1, CALL_CAUSES, CALL_OPEN, CALL_CLOSE, CALL_TAKE_OVER, CALL_NOTHING, CALLS };
+enum call {
+    CALL_DISPLAY = EVENT_REVOKE + 1,
+    CALL_CAUSES,
+    CALL_WOULD_COVER,
+    CALL_WOULD_COVER_UP_TO,
+    CALL_HAS_TRIP_PLACE,
+    CALL_CLEAR_OF,
+    CALL_OPEN,
+    CALL_CLOSE,
+    CALL_TAKE_OVER,
+    CALL_NOTHING,
+    CALLS
+};
 
-static const char *const names[CALLS] = {"sdm_cycle",    "sdm_end",    "sdm_end_calculated", "sdm_limit",
-                                         "sdm_restrict", "sdm_revoke", "sdm_display",        "sdm_causes",
-                                         "sdm_open",     "sdm_close",  "sdm_take_over",      "nothing"};
+static const char *const names[CALLS] = {"sdm_cycle",          "sdm_end",
+                                         "sdm_end_calculated", "sdm_limit",
+                                         "sdm_restrict",       "sdm_revoke",
+                                         "sdm_display",        "sdm_causes",
+                                         "sdm_would_cover",    "sdm_would_cover_up_to",
+                                         "sdm_has_trip_place", "sdm_clear_of",
+                                         "sdm_open",           "sdm_close",
+                                         "sdm_take_over",      "nothing"};
 
 /* A call that is to be made, and what it answers. */
 struct job {
@@ -49,10 +66,33 @@ static struct times times[CALLS];
 static uint8_t stacks[CALLS][STACK_BYTES];
 static const uint8_t *tops[CALLS];
 
-static void perform(struct job *job) {
-    static struct sdm_row row;
+/* Asks about a reading. */
+static uint32_t ask(struct sdm *h, enum call call, const struct sdm_reading *reading) {
     static struct sdm_display display;
     static struct sdm_causes causes;
+    static struct sdm_place first;
+    static uint32_t is_so;
+    const struct sdm_allowance allowance = {0, reading->under_mm_s, 0};
+    switch (call) {
+    case CALL_DISPLAY:
+        return sdm_display(h, reading, &display);
+    case CALL_CAUSES:
+        return sdm_causes(h, reading, &causes);
+    case CALL_WOULD_COVER:
+        return sdm_would_cover(h, reading, &is_so);
+    case CALL_WOULD_COVER_UP_TO:
+        return sdm_would_cover_up_to(h, reading, &is_so);
+    case CALL_HAS_TRIP_PLACE:
+        return sdm_has_trip_place(h, 1000, reading->under_mm_s, &is_so);
+    case CALL_CLEAR_OF:
+        return sdm_clear_of(h, reading, &allowance, &first);
+    default:
+        abort();
+    }
+}
+
+static void perform(struct job *job) {
+    static struct sdm_row row;
     static struct sdm_line line;
     struct sdm_reading reading;
     switch (job->call) {
@@ -68,12 +108,13 @@ static void perform(struct job *job) {
     case CALL_NOTHING:
         break;
     case CALL_DISPLAY:
-        reading = event_reading(job->event);
-        job->status = sdm_display(job->h, &reading, &display);
-        break;
     case CALL_CAUSES:
+    case CALL_WOULD_COVER:
+    case CALL_WOULD_COVER_UP_TO:
+    case CALL_HAS_TRIP_PLACE:
+    case CALL_CLEAR_OF:
         reading = event_reading(job->event);
-        job->status = sdm_causes(job->h, &reading, &causes);
+        job->status = ask(job->h, job->call, &reading);
         break;
     default:
         job->status = event_take(job->h, job->event, &row);
@@ -165,10 +206,10 @@ static void play(const struct journey *journey, void (*make)(struct job *)) {
     while (job.status == SDM_DONE && at < journey->end && event_read(&at, journey->end, &event, &column) == FORM_DONE) {
         job.call = (enum call)event.kind;
         make(&job);
-        if (job.status == SDM_DONE && event.kind == EVENT_READ) {
-            job.call = CALL_DISPLAY;
-            make(&job);
-            job.call = CALL_CAUSES;
+        if (job.status != SDM_DONE || event.kind != EVENT_READ)
+            continue;
+        for (unsigned asked = CALL_DISPLAY; asked <= CALL_CLEAR_OF; asked++) {
+            job.call = (enum call)asked;
             make(&job);
         }
     }
@@ -196,14 +237,14 @@ int main(void) {
     memset(stacks, PAINT, sizeof stacks);
     play(&journey, perform_timed);
     play(&journey, perform_on_painted_stack);
-    printf("%-20s %9s %12s %12s %12s %12s %12s\n", "call", "calls", "least, ns", "median, ns", "99.99 %, ns",
+    printf("%-22s %9s %12s %12s %12s %12s %12s\n", "call", "calls", "least, ns", "median, ns", "99.99 %, ns",
            "most, ns", "stack, bytes");
     for (unsigned i = 0; i < CALLS; i++) {
         struct times *of = &times[i];
         if (of->count == 0)
             continue;
         qsort(of->ns, of->count, sizeof of->ns[0], compare);
-        printf("%-20s %9zu %12" PRIu64 " %12" PRIu64 " %12" PRIu64 " %12" PRIu64 " %12zu\n", names[i], of->count,
+        printf("%-22s %9zu %12" PRIu64 " %12" PRIu64 " %12" PRIu64 " %12" PRIu64 " %12zu\n", names[i], of->count,
                of->ns[0], quantile(of, 5000), quantile(of, 9999), of->ns[of->count - 1], depth_of((enum call)i));
         free(of->ns);
     }
