@@ -25,12 +25,12 @@ if TYPE_CHECKING:  # for mypy and editors; _HOMES says the same where it runs
 __version__ = "0.11.1"
 # fmt: off
 __all__ = [
-    "Allowance", "Array", "CAUSES", "Cause", "Causes", "DISPLAY", "Diagnosis", "Display", "End", "EndCalculated", "Error",
-    "Explanation", "Fault", "Finding", "FormError", "ImportFault", "Journey", "KindError", "Limit", "Picture",
-    "READING", "ROW", "Reading", "Record", "Report", "Restriction", "Revocation", "Row", "Rule", "SdmError",
-    "Standing", "State", "Status", "Supervision", "Supervisor", "Target", "array", "campaign", "causes", "compare",
-    "diagnose", "display", "explain", "explanation", "frame", "import_recording", "plot", "readings", "records_of",
-    "report", "run", "summary", "sweep", "sweep_as_completed", "text",
+    "Allowance", "Array", "CAUSES", "Cause", "Causes", "DISPLAY", "Diagnosis", "Display", "End", "EndCalculated",
+    "Error", "Explanation", "Fault", "Finding", "FormError", "ImportFault", "Journey", "KindError", "Limit",
+    "Picture", "READING", "ROW", "Reading", "Record", "Report", "Restriction", "Revocation", "Row", "Rule",
+    "SdmError", "Standing", "State", "Status", "Supervision", "Supervisor", "Target", "array", "campaign", "causes",
+    "compare", "diagnose", "display", "explain", "explanation", "frame", "import_recording", "plot", "readings",
+    "records_of", "report", "run", "summary", "sweep", "sweep_as_completed", "text",
 ]
 _HOMES = {
     "arrays": "Array CAUSES DISPLAY READING ROW array frame readings text",
