@@ -5,7 +5,7 @@
  *
  * Each word names a file with a further input, whose data take the place of the old ones in motion: a change of data.
  *
- * crates/sdm_onboard is the same in Rattle, and proved, but for the look ahead; this program is tested alone. */
+ * crates/sdm_onboard is the same in Rattle, and proved, except for the look ahead; this program is tested alone. */
 #include "journey.h"
 
 #include <inttypes.h>
