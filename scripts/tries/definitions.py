@@ -55,6 +55,7 @@ returns c = ⊤.tt
 """
 ERROR = re.compile(r"^.*\berror\b.*$", re.M)
 NAMES = re.compile(r"is not in scope|has no `|was not admitted|is no name|has no name|unknown name")
+UNFIT = re.compile(r"^\S*specs/\S+\.antt:\d+:\d+: error: .*$", re.M)
 ENDED = re.compile(r"^(?:holes=|logic=|only=)", re.M)
 
 
@@ -179,6 +180,8 @@ def judged(case: Case, said: str) -> tuple[bool, str]:
     """Whether a case or a law is refused for what it says, by what the prover says; and why, or why not."""
     if not ENDED.search(said):
         return False, f"the prover gave no verdict: {(ERROR.findall(said) or ['nothing'])[0][:200]}"
+    if unfit := UNFIT.search(said):
+        return False, f"the wrong text is none: {unfit[0][:200]}"
     if not case.file:
         return judged_law(case, said)
     refused = [(name, why) for file, name, why in REFUSED.findall(said) if file == case.file]
