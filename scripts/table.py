@@ -63,6 +63,7 @@ CHECKS: dict[Group, list[Part]] = {
     ],
     "after": [
         Part("c", "c/check", "the static library, called from C, C++ and Ada"),
+        Part("calls", "c/check-calls", "each command as a call, from C and Python"),
         Part("library", "c.shared", "the Python package over the shared library"),
         Part("bounds", "bounding.bounds check", "the bounds of each call from C, by the machine code"),
         Part("rides", "c.rides", "random rides keep the promises, and find planted faults"),
@@ -120,6 +121,7 @@ TRIES = [
 OTHERS = [
     Part("program", "product.marks program", "the program that is taken: its path; tell, sources, mark, build"),
     Part("library", "product.marks library", "the library for C that is taken: its path; tell, build, build --for"),
+    Part("calls-library", "product.marks calls-library", "the library of c/sdm_calls.h: its path; tell, build"),
     Part("release", "packing.release", "packs a release into dist/"),
 ]
 MODULES = Path(__file__).resolve().parent

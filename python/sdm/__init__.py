@@ -8,6 +8,7 @@ from typing import TYPE_CHECKING, Any
 if TYPE_CHECKING:  # for mypy and editors; _HOMES says the same where it runs
     from sdm import campaign
     from sdm.arrays import CAUSES, DISPLAY, READING, ROW, Array, array, frame, readings, text
+    from sdm.calls import command
     from sdm.comparing import compare
     from sdm.diagnosis import diagnose
     from sdm.diagnosis.diagnosing import Diagnosis
@@ -29,11 +30,12 @@ __all__ = [
     "Error", "Explanation", "Fault", "Finding", "FormError", "ImportFault", "Journey", "KindError", "Limit",
     "Picture", "READING", "ROW", "Reading", "Record", "Report", "Restriction", "Revocation", "Row", "Rule",
     "SdmError", "Standing", "State", "Status", "Supervision", "Supervisor", "Target", "array", "campaign", "causes",
-    "compare", "diagnose", "display", "explain", "explanation", "frame", "import_recording", "plot", "readings",
-    "records_of", "report", "run", "summary", "sweep", "sweep_as_completed", "text",
+    "command", "compare", "diagnose", "display", "explain", "explanation", "frame", "import_recording", "plot",
+    "readings", "records_of", "report", "run", "summary", "sweep", "sweep_as_completed", "text",
 ]
 _HOMES = {
     "arrays": "Array CAUSES DISPLAY READING ROW array frame readings text",
+    "calls": "command",
     "comparing": "compare",
     "diagnosis": "diagnose",
     "diagnosis.diagnosing": "Diagnosis",

@@ -2,7 +2,7 @@
 Nothing here builds either of them, or knows whether it was proved, but `release`, which sees to that.
 
 facts       what is told of a release: version, commit, time, toolchain
-library     libsdm.a and libsdm.so, of the library that the crate sdm_c is built to
+library     libsdm and libsdm-calls, static and shared, of what the crates sdm_c and sdm_calls are built to
 places      what stands where below a prefix
 web         the pages as HTML
 bill        the bill of materials, in SPDX

@@ -29,7 +29,7 @@ def write(release: Release, contents: Contents, scratch: Path, into: Path) -> li
     """Writes the archive into a folder; its path, as the only one."""
     top, packed = scratch / release.name, into / f"{release.name}.tar.gz"
     tree.write(release, contents, top, "${pcfiledir}/../..", "lib", scratch)
-    python.write_wheel(release, contents, top / "lib" / release.shared_name, scratch, top / "share" / "sdm" / "python")
+    python.write_wheel(release, contents, top / "lib", scratch, top / "share" / "sdm" / "python")
     (top / "README").write_text(filled("README", version=release.version))
     bill.write(release, contents, top)
     (top / sums.NAME).write_text(sums.of_files_below(top))

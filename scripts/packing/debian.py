@@ -36,19 +36,23 @@ def write_documents(release: Release, work: Path, usr: Path) -> None:
 def write_dependencies(release: Release, work: Path, root: Path) -> str:
     """Writes into DEBIAN/ what others depend on of the libraries; what they and the program depend on."""
     control, usr = root / "DEBIAN", root / "usr"
-    library = usr / LIBRARIES / release.shared_name
-    (control / "shlibs").write_text(f"libsdm {release.layout} sdm (>= {release.version})\n")
+    shared = sorted(path for path in (usr / LIBRARIES).glob("lib*.so.*") if not path.is_symlink())
+    names = [path.name.partition(".so.") for path in shared]
+    (control / "shlibs").write_text(
+        "".join(f"{name} {layout} sdm (>= {release.version})\n" for name, _, layout in names)
+    )
     (control / "triggers").write_text("activate-noawait ldconfig\n")
     ran(
         "dpkg-gensymbols",
         "-psdm",
         f"-v{release.version}",
         f"-P{root}",
-        f"-e{library}",
+        *(f"-e{each}" for each in shared),
         f"-O{control / 'symbols'}",
         into=work,
     )
-    return ran("dpkg-shlibdeps", "-O", f"-e{usr / 'bin' / 'sdm'}", f"-e{library}", into=work).decode().strip()
+    programs = [f"-e{path}" for path in (usr / "bin" / "sdm", *shared)]
+    return ran("dpkg-shlibdeps", "-O", *programs, into=work).decode().strip()
 
 
 def build(release: Release, work: Path, root: Path, package: str, *variables: str) -> bytes:
@@ -89,10 +93,8 @@ def write(release: Release, contents: Contents, scratch: Path, into: Path) -> li
     whole = into / f"sdm_{release.version}_amd64.deb"
     whole.write_bytes(build(release, work, root, "sdm", write_dependencies(release, work, root)))
     for_python = into / f"python3-sdm_{release.version}_all.deb"
-    library = usr / LIBRARIES / release.shared_name
-    python.write_for_debian(
-        python.write_wheel(release, contents, library, scratch, scratch / "wheels"), python_root / "usr"
-    )
+    wheel = python.write_wheel(release, contents, usr / LIBRARIES, scratch, scratch / "wheels")
+    python.write_for_debian(wheel, python_root / "usr")
     (python_root / "DEBIAN").mkdir()
     for name in ("postinst", "prerm"):
         (python_root / "DEBIAN" / name).write_text(filled(f"python3-sdm.{name}"))

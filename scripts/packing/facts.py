@@ -22,6 +22,7 @@ class Contents:
     library: Path
     files: Path
     placed: Path
+    calls: Path | None = None  # the library that the crate sdm_calls is built to, where it is packed
 
 
 @dataclass(frozen=True)

@@ -9,9 +9,13 @@ PAGES = "share/doc/sdm/html"
 WHOLE = {  # these files
     "c/sdm.h": "include/sdm.h",
     "c/sdm.hpp": "include/sdm.hpp",
+    "c/sdm_calls.h": "include/sdm_calls.h",
+    "c/sdm_calls.hpp": "include/sdm_calls.hpp",
     "c/ada/sdm.ads": "share/ada/adainclude/sdm.ads",
+    "c/ada/sdm_calls.ads": "share/ada/adainclude/sdm_calls.ads",
     "docs/sdm.1": "share/man/man1/sdm.1",
     "docs/sdm.h.3": "share/man/man3/sdm.h.3",
+    "docs/sdm_calls.h.3": "share/man/man3/sdm_calls.h.3",
 }
 # These folders, with what is in them, but what is left out.
 FOLDERS = {"c": "share/sdm/c", "examples": "share/sdm/examples", "vectors": "share/sdm/vectors"}

@@ -1,5 +1,5 @@
-"""The Python package of a release: a wheel for pip, which has the shared library in it, and the files of a Debian
-package, which takes the library of the package sdm."""
+"""The Python package of a release: a wheel for pip, which has the shared libraries in it, and the files of a Debian
+package, which takes those of the package sdm."""
 from __future__ import annotations
 
 import re
@@ -14,15 +14,20 @@ from sdm.laboratory.program import Fault
 
 SYSTEM = "manylinux_2_34_x86_64"  # what pip calls an x86-64 Linux with that C library or a later one
 MODULES = "lib/python3/dist-packages"
-LIBRARY = "sdm/libsdm.so"  # in the wheel, where sdm.library looks for it first
-NOT_DEBIANS = re.compile(r"sdm/libsdm\.so|.*\.dist-info/RECORD")  # which lists files for pip, and Debian leaves out
+# In the wheel, where sdm.library and sdm.calls look for them first.
+LIBRARIES = ["sdm/libsdm.so", "sdm/libsdm-calls.so"]
+NOT_DEBIANS = re.compile(
+    r"sdm/libsdm(-calls)?\.so|.*\.dist-info/RECORD"
+)  # which lists files for pip, and Debian leaves out
 
 
-def source(release: Release, contents: Contents, library: Path, scratch: Path) -> Path:
-    """Writes the folder of which setuptools makes the wheel."""
+def source(release: Release, contents: Contents, libraries: Path, scratch: Path) -> Path:
+    """Writes the folder of which setuptools makes the wheel, with the shared libraries of a folder."""
     into = scratch / "wheel"
     shutil.copytree(contents.files / "python", into, ignore=shutil.ignore_patterns("tests"))
-    shutil.copyfile(library, into / LIBRARY)
+    for place in LIBRARIES:
+        if (libraries / Path(place).name).exists():
+            shutil.copyfile(libraries / Path(place).name, into / place)
     head = into / "sdm" / "__init__.py"
     text, count = re.subn(r'^__version__ = ".*"$', f'__version__ = "{release.version}"', head.read_text(), flags=re.M)
     if count != 1:
@@ -32,8 +37,8 @@ def source(release: Release, contents: Contents, library: Path, scratch: Path) -
     return into
 
 
-def write_wheel(release: Release, contents: Contents, library: Path, scratch: Path, into: Path) -> Path:
-    """Writes the wheel, with a shared library, into a folder; its path."""
+def write_wheel(release: Release, contents: Contents, libraries: Path, scratch: Path, into: Path) -> Path:
+    """Writes the wheel, with the shared libraries of a folder, into another; its path."""
     into.mkdir(parents=True, exist_ok=True)
     ran(
         sys.executable,
@@ -42,14 +47,14 @@ def write_wheel(release: Release, contents: Contents, library: Path, scratch: Pa
         "bdist_wheel",
         f"--plat-name={SYSTEM}",
         f"--dist-dir={into}",
-        into=source(release, contents, library, scratch),
+        into=source(release, contents, libraries, scratch),
         epoch=release.epoch,
     )
     return next(into.glob("*.whl"))
 
 
 def write_for_debian(wheel: Path, usr: Path) -> None:
-    """Writes what the wheel has, except the library, to where Debian has it."""
+    """Writes what the wheel has, except the libraries, to where Debian has it."""
     with ZipFile(wheel) as packed:
         packed.extractall(usr / MODULES, [name for name in packed.namelist() if not NOT_DEBIANS.fullmatch(name)])
     (usr / "bin").mkdir()

@@ -15,11 +15,11 @@ import time
 
 from scripts.c import header
 from scripts.packing.facts import Release, ran
-from scripts.packing.work import pack
+from scripts.packing.work import Built, pack
 from scripts.pages import manual
 from scripts.processors import released
 from scripts.product import marks
-from sdm.laboratory.program import LIBRARY, PROGRAM, TOP, Fault
+from sdm.laboratory.program import CALLS, LIBRARY, PROGRAM, TOP, Fault
 
 DIST = TOP / "dist"
 UNRELEASED = re.compile(r"^## \[Unreleased\]\n(.*?)(?=^## \[)", re.M | re.S)
@@ -45,12 +45,14 @@ def release() -> None:
     if ran("git", "status", "--porcelain"):
         raise Fault("The work tree isn't clean, so what lies here is no commit.")
     marks.must_hold(PROGRAM)
-    if LIBRARY.fault():
-        marks.build_library()
-    if PROGRAM.marked()["kit"] != LIBRARY.marked()["kit"]:
-        raise Fault("The program and the library were built by two toolchains.")
+    for product in (LIBRARY, CALLS):
+        if product.fault():
+            marks.build_library(product)
+        if PROGRAM.marked()["kit"] != product.marked()["kit"]:
+            raise Fault(f"The program and the {product.kind} were built by two toolchains.")
     begun = time.monotonic()
-    for path in pack(facts(PROGRAM.marked()), PROGRAM.path, LIBRARY.path, DIST, released.write):
+    built = Built(PROGRAM.path, LIBRARY.path, CALLS.path)
+    for path in pack(facts(PROGRAM.marked()), built, DIST, released.write):
         print(f"{path.relative_to(TOP)}: {path.stat().st_size:,} bytes")
     print(f"packed twice, with the same bytes, in {time.monotonic() - begun:.0f} s")
     print((DIST / "SHA256SUMS").read_text(), end="")

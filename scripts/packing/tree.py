@@ -56,8 +56,9 @@ def write_libraries(
     into = prefix / libraries
     for folder in (into / "pkgconfig", into / "cmake" / "sdm"):
         folder.mkdir(parents=True)
-    library.make_static(release, contents, scratch, into, tools)
-    library.make_shared(release, contents, scratch, into, tools)
+    made = library.of_supervisor(release, contents)
+    library.make_static(made, contents, scratch, into, tools)
+    library.make_shared(made, contents, scratch, into, tools)
     (into / "pkgconfig" / "sdm.pc").write_text(
         filled("sdm.pc", prefix=root, headers=headers, libraries=libraries, version=release.version)
     )
@@ -69,11 +70,24 @@ def write_libraries(
     )
 
 
+def write_commands(
+    release: Release, contents: Contents, archive: Path, prefix: Path, root: str, libraries: str, scratch: Path
+) -> None:
+    """Writes the libraries of every command as a call, with what pkg-config reads; the other libraries stand there."""
+    into, made = prefix / libraries, library.of_commands(contents, archive)
+    library.make_static(made, contents, scratch, into)
+    library.make_shared(made, contents, scratch, into)
+    (into / "pkgconfig" / "sdm-calls.pc").write_text(
+        filled("sdm-calls.pc", prefix=root, headers="include", libraries=libraries, version=release.version)
+    )
+
+
 def build_record(release: Release, contents: Contents) -> str:
     """What a release was built from, in lines."""
     return (
         f"version {release.version}\ncommit {release.commit}\nsources {release.sources}\nkit {release.kit}\n"
         f"program {sum_of(contents.program)}\nlibrary {sum_of(contents.library)}\n"
+        + (f"calls-library {sum_of(contents.calls)}\n" if contents.calls else "")
     )
 
 
@@ -81,6 +95,8 @@ def write(release: Release, contents: Contents, prefix: Path, root: str, librari
     """Writes the files that each release has below a new prefix; the libraries go to a folder below it."""
     shutil.copytree(contents.placed, prefix)
     write_libraries(release, contents, prefix, root, libraries, scratch)
+    if contents.calls is not None:
+        write_commands(release, contents, contents.calls, prefix, root, libraries, scratch)
 
 
 def is_run(path: Path) -> bool:

@@ -6,6 +6,7 @@ import filecmp
 import shutil
 import tempfile
 from collections.abc import Callable
+from dataclasses import dataclass
 from pathlib import Path
 
 from scripts.packing import archive, debian, sums, tree
@@ -21,15 +22,25 @@ def files_of(release: Release, into: Path) -> Path:
     return into
 
 
+@dataclass(frozen=True)
+class Built:
+    """What was built and is packed: the program, and the libraries of the crates sdm_c and sdm_calls."""
+
+    program: Path
+    library: Path
+    calls: Path
+
+
 More = Callable[[Release, Path], list[Path]]  # writes more files of a release into a folder
 
 
-def pack_once(release: Release, program: Path, library: Path, into: Path, more: More) -> list[Path]:
+def pack_once(release: Release, built: Built, into: Path, more: More) -> list[Path]:
     """Writes what is packed into a folder that is empty; the paths."""
     packed: list[Path] = []
     with tempfile.TemporaryDirectory(prefix="sdm-packing-") as name:
         scratch = Path(name)
-        contents = Contents(program, library, files_of(release, scratch / "commit"), scratch / "placed")
+        files, placed = files_of(release, scratch / "commit"), scratch / "placed"
+        contents = Contents(built.program, built.library, files, placed, built.calls)
         tree.place_files(release, contents)
         for write in (archive.write, debian.write):
             place = scratch / write.__module__
@@ -46,11 +57,11 @@ def nothing(release: Release, into: Path) -> list[Path]:
     return []
 
 
-def pack(release: Release, program: Path, library: Path, into: Path, more: More = nothing) -> list[Path]:
+def pack(release: Release, built: Built, into: Path, more: More = nothing) -> list[Path]:
     """Packs into a folder, in the place of what it has; a fault, where a second time gives other bytes."""
     with tempfile.TemporaryDirectory() as one, tempfile.TemporaryDirectory() as other:
-        packed = pack_once(release, program, library, Path(one), more)
-        again = pack_once(release, program, library, Path(other), more)
+        packed = pack_once(release, built, Path(one), more)
+        again = pack_once(release, built, Path(other), more)
         for first, second in zip(packed, again, strict=True):
             if not filecmp.cmp(first, second, shallow=False):
                 raise Fault(f"{first.name} has other bytes when it is packed again.")

@@ -6,7 +6,7 @@ command with its own equations alone.
     scripts/house show believed             prints the tables of docs/BELIEVED.md
     scripts/house write believed            puts them between their marks there
     scripts/house show believed of CLAIM    prints the definitions that count for a claim, by file: run, live, ..,
-                                            supervisor or C
+                                            supervisor, C or calls
     scripts/house check believed            fails where the tables of the page are stale
 """
 from __future__ import annotations
@@ -216,6 +216,22 @@ C = Claim(
     ],
 )
 
+EXPORTS = ["sdm_calls_layout", "sdm_calls_into"]
+EXPORTS += [f"sdm_calls_live_{name}" for name in ("open", "feed", "end", "close")]
+CALLS = Claim(
+    "calls",
+    calls=[("sdm_calls", "", name) for name in EXPORTS] + [CODE],
+    edge=[
+        ("sdm_calls/src/lib.rt", "the clauses of each call; their bodies are proved"),
+        ("sdm_calls/src/endings.rt", "the struct as C has it: its layout is trusted"),
+        ("sdm_calls/src/sessions.rt", "the value of a session"),
+        ("sdm_calls/src/live_handles.rt", "the value of a handle of a session"),
+        ("../c/sdm_calls.h", "the header: that it says what the source says is trusted, and tested from C"),
+        ("../c/sdm_calls.c", "what stands between header and crate: trusted, and tested"),
+        ("../c/heap.h", "what the heap promises: code of the caller, which is trusted"),
+    ],
+)
+
 CLAIMS = [
     *(of_program(name, command) for name, command in COMMANDS.items()),
     LIVE,
@@ -223,6 +239,7 @@ CLAIMS = [
     of_texts("help"),
     SUPERVISOR,
     C,
+    CALLS,
 ]
 
 
@@ -362,6 +379,7 @@ class Believed:
             "`version` and `help`": of_texts("version"),
             "From Rattle": SUPERVISOR,
             "From C": C,
+            "Each command as a call": CALLS,
         }
         for title, claim in edges.items():
             out += ["", f"**{title}**", "", "| File | Lines | What counts in it |", "|---|---|---|"]

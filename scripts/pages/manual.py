@@ -1,5 +1,6 @@
-"""Writes the manual: the parts of docs/sdm.1 that docs/commands.toml has, docs/sdm.h.3 from c/sdm.h, and the texts of
-`sdm version` and `sdm help`; the version of all from CHANGELOG.md, the toolchain's line from README.md.
+"""Writes the manual: the parts of docs/sdm.1 that docs/commands.toml has, docs/sdm.h.3 and docs/sdm_calls.h.3 from the
+headers of c/, and the texts of `sdm version` and `sdm help`; the version of all from CHANGELOG.md, the toolchain's line
+from README.md.
 
     scripts/house show manual help    prints the commands, as `sdm help` prints them
     scripts/house write manual        writes the pages and the texts
@@ -23,7 +24,6 @@ from scripts.pages.specs import ROOT
 
 COMMANDS = ROOT / "docs" / "commands.toml"
 PROGRAM_PAGE = ROOT / "docs" / "sdm.1"
-HEADER_PAGE = ROOT / "docs" / "sdm.h.3"
 TEXTS = ROOT / "crates" / "sdm_words" / "src" / "texts.rt"
 TOOLCHAIN = re.compile(r"rattle-kit-\w+ logic [0-9a-f]+")
 WRITER = "scripts/house write manual"
@@ -40,6 +40,39 @@ class Command:
     input: str  # what standard input brings, empty for none
     short: str
     long: str
+
+
+@dataclass(frozen=True)
+class HeaderPage:
+    """What the page of a header of c/ tells beside the header's own text."""
+
+    header: Path
+    does: str
+    package: str  # for pkg-config; the library's name without lib
+    target: str  # of CMake
+    calls: str  # what the texts of the calls have in common
+
+    @property
+    def path(self) -> Path:
+        return ROOT / "docs" / f"{self.header.name}.3"
+
+
+PAGES = [
+    HeaderPage(
+        header.HEADER,
+        "ETCS speed and distance monitoring for C",
+        "sdm",
+        "sdm::sdm",
+        "The text of each call ends with what it answers but SDM_DONE, in the order in which that is looked for.",
+    ),
+    HeaderPage(
+        ROOT / "c" / "sdm_calls.h",
+        "the commands of sdm as calls for C",
+        "sdm-calls",
+        "sdm::calls",
+        "Each call but the first two and the last returns an enum sdm_code.",
+    ),
+]
 
 
 def version() -> str:
@@ -80,8 +113,8 @@ def item(label: str, text: str) -> str:
 
 def title_of(page: str) -> str:
     """The first line of a page."""
-    name, section, manual = ("SDM", 1, "User Commands") if page == "sdm" else ("SDM.H", 3, "Library Functions Manual")
-    return f'.TH {name} {section} "" "sdm {version()}" "{manual}"\n'
+    section, manual = (1, "User Commands") if page == "sdm" else (3, "Library Functions Manual")
+    return f'.TH {page.upper()} {section} "" "sdm {version()}" "{manual}"\n'
 
 
 def synopsis() -> Iterator[str]:
@@ -124,7 +157,7 @@ def parts_of_program_page() -> list[tuple[Part, str]]:
     ]
 
 
-# ---- the page of the header
+# ---- the pages of the headers
 
 
 def of_call(call: header.Call) -> str:
@@ -132,23 +165,23 @@ def of_call(call: header.Call) -> str:
     return item(call.name + "()", call.comment)
 
 
-def header_page() -> str:
-    """The page of c/sdm.h."""
-    text = header.text()
+def header_page(page: HeaderPage) -> str:
+    """The page of a header."""
+    text = page.header.read_text()
     calls = header.calls(text)
     prototypes = "".join(f"{escaped(call.prototype)}\n" for call in calls)
     types = "\n".join(f"{escaped(each)}\n" for each in header.types(text))
+    package, name = escaped(page.package), page.header.name
     return "".join(
         [
-            f'.\\" written by {WRITER} from c/sdm.h\n',
-            title_of("sdm.h"),
-            ".SH NAME\nsdm.h \\- ETCS speed and distance monitoring for C\n",
-            f".SH SYNOPSIS\n.nf\n.B #include <sdm.h>\n.PP\n{prototypes}.fi\n.PP\nLink with \\fB\\-lsdm\\fR; "
-            "\\fBpkg\\-config \\-\\-cflags \\-\\-libs sdm\\fR and CMake's \\fBfind_package(sdm)\\fR tell the words.\n",
+            f'.\\" written by {WRITER} from c/{name}\n',
+            title_of(name),
+            f".SH NAME\n{name} \\- {page.does}\n",
+            f".SH SYNOPSIS\n.nf\n.B #include <{name}>\n.PP\n{prototypes}.fi\n.PP\nLink with \\fB\\-l{package}\\fR; "
+            f"\\fBpkg\\-config \\-\\-cflags \\-\\-libs {package}\\fR and CMake's \\fBfind_package(sdm)\\fR"
+            f"{'' if page.package == 'sdm' else f' with its target {page.target}'} tell the words.\n",
             ".SH DESCRIPTION\n" + ".PP\n".join(f"{escaped(each)}\n" for each in header.opening(text)),
-            ".SH CALLS\nThe text of each call ends with what it answers but SDM_DONE, "
-            "in the order in which that is looked "
-            "for.\n",
+            f".SH CALLS\n{page.calls}\n",
             "".join(of_call(call) for call in calls),
             f".SH TYPES\n.nf\n{types}.fi\n",
             ".SH SEE ALSO\n.BR sdm (1);\n"
@@ -189,7 +222,7 @@ def source_of_texts() -> str:
 
 def written_files() -> dict[Path, str]:
     """The files that are written whole, with their texts."""
-    return {HEADER_PAGE: header_page(), TEXTS: source_of_texts()}
+    return {**{page.path: header_page(page) for page in PAGES}, TEXTS: source_of_texts()}
 
 
 def faults_of_files() -> list[str]:
@@ -214,11 +247,11 @@ def faults_of_groff() -> Iterator[str]:
     if not shutil.which("groff"):
         yield "groff is not installed; scripts/setup installs it"
         return
-    for page in ("docs/sdm.1", "docs/sdm.h.3"):
-        words = ["groff", "-man", "-Tutf8", "-ww", "-z", page]
+    for page in (PROGRAM_PAGE, *(page.path for page in PAGES)):
+        words = ["groff", "-man", "-Tutf8", "-ww", "-z", str(page.relative_to(ROOT))]
         warnings = subprocess.run(words, cwd=ROOT, stdout=subprocess.PIPE, stderr=subprocess.STDOUT, text=True).stdout
         if warnings:
-            yield f"{page}: {warnings.strip()}"
+            yield f"{page.relative_to(ROOT)}: {warnings.strip()}"
 
 
 def main(words: list[str]) -> int:
@@ -234,6 +267,6 @@ def main(words: list[str]) -> int:
     if words == ["check"]:
         parts = parts_of_program_page()
         faults = [fault for part, text in parts for fault in part.faults(text)]
-        return told("manual", len(parts) + 5, faults + faults_of_files() + faults_of_readme() + [*faults_of_groff()])
+        return told("manual", len(parts) + 6, faults + faults_of_files() + faults_of_readme() + [*faults_of_groff()])
     print(__doc__.strip(), file=sys.stderr)
     return 2

@@ -42,7 +42,7 @@ def toolchain_that_keeps(module: Path) -> Iterator[Path]:
 
 def words_for(toolchain: Path) -> list[str]:
     """The command that proves and builds the archive, with a toolchain's folder, over the libraries below it."""
-    words = marks.words_over_proved()
+    words = marks.words_over_proved("sdm_c", LIBRARY.path)
     jobs = str(len(os.sched_getaffinity(0)))
     for option, value in (("--toolchain", str(toolchain)), ("-o", str(ARCHIVE.path)), ("--jobs", jobs)):
         words[words.index(option) + 1] = value
@@ -57,7 +57,7 @@ def build() -> None:
     those that `rt ci` left, where PROVED_BY_RT_CI is set, and else those over which `rt lib` builds."""
     before = sum_of_sources()
     if LIBRARY.fault() or not os.environ.get("PROVED_BY_RT_CI"):
-        marks.build_library()
+        marks.build_library(LIBRARY)
     for product in (ARCHIVE, MODULE):
         product.mark.unlink(missing_ok=True)
         product.path.unlink(missing_ok=True)

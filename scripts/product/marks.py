@@ -1,4 +1,4 @@
-"""Which program, and which library for C, the scripts and tools take, and how these get the marks that say from which
+"""Which program, and which libraries for C, the scripts and tools take, and how these get the marks that say from which
 sources they were built.
 
     scripts/house program                   prints its path; fails where it isn't of these sources
@@ -15,6 +15,8 @@ sources they were built.
                                    over the libraries below it that `rt ci` proved
     scripts/house library build --for NAME..    builds it for other processors; without a name it tells the names
 
+    scripts/house calls-library [tell|build]    the same for the library of c/sdm_calls.h
+
 A mark shows that the program or library, byte for byte, is the one that a proved build left, and that the sources
 were the same before the build, after it, and are now. It doesn't show that nobody changed them in between and put
 them back, nor that nobody wrote a mark by hand. Tests, definitions and proofs count as sources, so that what is
@@ -27,10 +29,12 @@ import os
 import subprocess
 import sys
 from collections.abc import Callable
+from functools import partial
 from pathlib import Path
 
 from sdm.laboratory.cases import text_of
 from sdm.laboratory.program import (
+    CALLS,
     CRATE,
     LIBRARY,
     PROGRAM,
@@ -86,32 +90,34 @@ def build_program() -> None:
     mark(PROGRAM, before, "rt run")
 
 
-def words_over_proved() -> list[str]:
-    """The command with which `rt lib` ends, over the libraries that `rt ci` proved and left. `rt lib` itself takes only
-    what `rt check` kept, and where that is nothing it proves each crate below once more."""
+def words_over_proved(crate: str, into: Path) -> list[str]:
+    """The command with which `rt lib` ends in a crate, over the libraries that `rt ci` proved and left. `rt lib` itself
+    takes only what `rt check` kept, and where that is nothing it proves each crate below once more."""
     told = subprocess.run(["rt", "doc"], capture_output=True, text=True, check=True).stdout
     kit = Path(told.strip()).parent
-    line = next(line for line in (TOP / "crates.txt").read_text().splitlines() if line.startswith("sdm_c staticlib:"))
-    words = [str(kit / "bin" / "rattle"), "build", "--crate-name", "sdm_c", "--crate-type", "staticlib", "src/lib.rt"]
+    lines = (TOP / "crates.txt").read_text().splitlines()
+    line = next(line for line in lines if line.startswith(f"{crate} staticlib:"))
+    words = [str(kit / "bin" / "rattle"), "build", "--crate-name", crate, "--crate-type", "staticlib", "src/lib.rt"]
     for name in ["std", *line.partition(":")[2].split()]:
         folder = TOP / "crates" / name / "out" / "rlib" if name.startswith("sdm_") else kit / "rlibs"
         words += ["--extern", f"{name}={folder / name}.rlib"]
     for folder in [kit / "rlibs", *sorted(TOP.glob("crates/*/out/rlib"))]:
         words += ["-L", f"dependency={folder}"]
-    words += ["--links", "sdm_c=", "--antt-project", str(kit / "rattle" / "logic" / "antt-project.json")]
+    words += ["--links", f"{crate}=", "--antt-project", str(kit / "rattle" / "logic" / "antt-project.json")]
     words += ["--logic-built", str(kit / "logic_built"), "--toolchain", str(kit / "toolchain")]
-    return [*words, "--jobs", str(os.cpu_count()), "-o", str(LIBRARY.path)]
+    return [*words, "--jobs", str(os.cpu_count()), "-o", str(into)]
 
 
-def build_library() -> None:
-    """Proves and builds the library for C, and marks it."""
+def build_library(product: Product) -> None:
+    """Proves and builds a library for C, and marks it."""
     before, is_proved_below = sum_of_sources(), bool(os.environ.get("PROVED_BY_RT_CI"))
-    LIBRARY.mark.unlink(missing_ok=True)
-    words = words_over_proved() if is_proved_below else ["rt", "lib"]
-    LIBRARY.path.parent.mkdir(exist_ok=True)
-    if ended(words, "sdm_c"):
-        raise Fault("The library isn't proved and built.")
-    mark(LIBRARY, before, "rattle build over proved libraries" if is_proved_below else "rt lib")
+    crate = product.path.parents[1].name
+    product.mark.unlink(missing_ok=True)
+    words = words_over_proved(crate, product.path) if is_proved_below else ["rt", "lib"]
+    product.path.parent.mkdir(exist_ok=True)
+    if ended(words, crate):
+        raise Fault(f"The {product.kind} isn't proved and built.")
+    mark(product, before, "rattle build over proved libraries" if is_proved_below else "rt lib")
 
 
 def must_hold(product: Product) -> None:
@@ -145,21 +151,22 @@ def of_program(words: list[str]) -> None:
     tell(PROGRAM, bool(words))
 
 
-def of_library(words: list[str]) -> None:
-    """What scripts/house library does for its words."""
+def of_library(product: Product, words: list[str]) -> None:
+    """What scripts/house library or scripts/house calls-library does for its words."""
     if words == ["build"]:
-        build_library()
-    tell(LIBRARY, bool(words))
+        build_library(product)
+    tell(product, bool(words))
 
 
 FORMS: dict[str, tuple[list[list[str]], list[str], Callable[[list[str]], None]]] = {
     "program": ([[], ["tell"], ["sources"], ["build"]], ["--program", "mark"], of_program),
-    "library": ([[], ["tell"], ["build"]], [], of_library),
+    "library": ([[], ["tell"], ["build"]], [], partial(of_library, LIBRARY)),
+    "calls-library": ([[], ["tell"], ["build"]], [], partial(of_library, CALLS)),
 }
 
 
 def main(args: list[str]) -> int:
-    """The exit status of `scripts/house program` or `scripts/house library`, by the first word, for the others."""
+    """The exit status of `scripts/house program`, `library` or `calls-library`, by the first word, for the others."""
     kind, *words = args
     if args[:3] == ["library", "build", "--for"]:
         from scripts.processors import build  # which takes the library that is built here

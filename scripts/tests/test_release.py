@@ -81,7 +81,9 @@ class Libraries(Scratch):
         self.contents = Contents(Path("/bin/true"), self.top / "libcalls.a", copies.TOP, self.top)
 
     def test_the_shared_library_shows_the_calls_with_their_version(self) -> None:
-        library.make_shared(RELEASE, self.contents, self.folder("scratch"), self.folder("lib"))
+        library.make_shared(
+            library.of_supervisor(RELEASE, self.contents), self.contents, self.folder("scratch"), self.folder("lib")
+        )
         shown = printed(
             "nm", "--dynamic", "--defined-only", "--with-symbol-versions", self.top / "lib" / "libsdm.so"
         ).split()[2::3]
@@ -95,7 +97,9 @@ class Libraries(Scratch):
         self.assertIn("[libc.so.6]", dynamic)
 
     def test_the_static_library_shows_the_calls_and_a_heap_of_its_own_file(self) -> None:
-        library.make_static(RELEASE, self.contents, self.folder("scratch"), self.folder("lib"))
+        library.make_static(
+            library.of_supervisor(RELEASE, self.contents), self.contents, self.folder("scratch"), self.folder("lib")
+        )
         lines = printed(
             "nm", "--extern-only", "--defined-only", "--format=just-symbols", self.top / "lib" / "libsdm.a"
         ).split()
@@ -110,7 +114,51 @@ class Libraries(Scratch):
         printed("cc", "-fPIC", "-c", "-o", self.top / "calls.o", self.top / "calls.c")
         printed("ar", "rcsD", self.top / "libcalls.a", self.top / "calls.o")
         with self.assertRaisesRegex(Fault, "helper"):
-            library.make_shared(RELEASE, self.contents, self.folder("scratch"), self.folder("lib"))
+            library.make_shared(
+                library.of_supervisor(RELEASE, self.contents), self.contents, self.folder("scratch"), self.folder("lib")
+            )
+
+
+class Commands(Scratch):
+    """The libraries of every command as a call, over a crate that does nothing."""
+
+    CRATE = "".join(f"unsigned sdm_calls_{name}(void) {{ return 1; }}\n" for name in ("layout", "into", "streams"))
+
+    def setUp(self) -> None:
+        super().setUp()
+        (self.top / "crate.c").write_text(self.CRATE)
+        printed("cc", "-fPIC", "-c", "-o", self.top / "crate.o", self.top / "crate.c")
+        printed("ar", "rcsD", self.top / "libcrate.a", self.top / "crate.o")
+        self.contents = Contents(Path("/bin/true"), Path(), copies.TOP, self.top)
+        self.made = library.of_commands(self.contents, self.top / "libcrate.a")
+        self.calls = {call.name for call in header.calls((copies.TOP / "c" / "sdm_calls.h").read_text())}
+
+    def test_the_shared_library_shows_the_calls_with_their_version(self) -> None:
+        library.make_shared(self.made, self.contents, self.folder("scratch"), self.folder("lib"))
+        shown = printed(
+            "nm", "--dynamic", "--defined-only", "--with-symbol-versions", self.top / "lib" / "libsdm-calls.so.1"
+        ).split()[2::3]
+        self.assertEqual(set(shown), {"SDM_CALLS_1", *(f"{call}@@SDM_CALLS_1" for call in self.calls)})
+
+    def test_the_static_library_shows_the_calls_and_a_heap_of_its_own_file(self) -> None:
+        library.make_static(self.made, self.contents, self.folder("scratch"), self.folder("lib"))
+        lines = printed(
+            "nm", "--extern-only", "--defined-only", "--format=just-symbols", self.top / "lib" / "libsdm-calls.a"
+        ).split()
+        self.assertEqual(
+            {line for line in lines if not line.endswith(":")},
+            {*self.calls, "rattle_alloc", "rattle_realloc", "rattle_dealloc"},
+        )
+        self.assertIn("heap_malloc.o", printed("ar", "t", self.top / "lib" / "libsdm-calls.a").split())
+
+    def test_each_language_has_each_code_by_its_number(self) -> None:
+        codes = header.codes((copies.TOP / "c" / "sdm_calls.h").read_text())["sdm_code"]
+        wrapper, binding = ((copies.TOP / "c" / name).read_text() for name in ("sdm_calls.hpp", "ada/sdm_calls.ads"))
+        for name, number in codes.items():
+            short = name.removeprefix("SDM_CODE_")
+            self.assertRegex(wrapper, rf"\n    {short.lower()} = {name},?\n")
+            self.assertRegex(binding, rf"(?i)\n   {short} +: constant Word := {number};")
+        self.assertEqual(len(codes), 11)
 
 
 class Pages(Scratch):

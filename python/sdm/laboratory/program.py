@@ -87,6 +87,7 @@ class Product:
 
 PROGRAM = Product("program", CRATE / "out" / "sdm")
 LIBRARY = Product("library", TOP / "crates" / "sdm_c" / "out" / "libsdm_c.a")
+CALLS = Product("calls-library", TOP / "crates" / "sdm_calls" / "out" / "libsdm_calls.a")
 BUILT = PROGRAM.path if IS_REPOSITORY else Path(shutil.which("sdm") or "sdm")
 
 

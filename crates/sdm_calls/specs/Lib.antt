@@ -1,0 +1,12 @@
+pub mod Words
+pub mod Calls
+pub mod Gathered
+pub mod Lines
+pub mod Endings
+pub mod Heap
+pub mod Held
+pub mod Lending
+pub mod TakenBytes
+pub mod Begun
+pub mod Feeding
+pub mod Sessions
