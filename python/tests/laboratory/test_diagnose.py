@@ -286,7 +286,7 @@ class Tool(unittest.TestCase):
         self.assertIn("200 rows compared, 1 run of differences", told)
         self.assertIn("  1. (a) the foot of the EBD has the target's speed without dV_ebi\n", told)
         self.assertIn("  rows 15 to 55: ebi ", told)
-        self.assertIn("    explained by: (a) the foot of the EBD has the target's speed without dV_ebi (", told)
+        self.assertIn("    explained by: (a) the foot of the EBD has the target's speed without dV_ebi or dV_ebi", told)
 
     def test_times_that_are_a_little_off(self):
         """A command that comes a cycle late isn't a difference within --ds; so it isn't explained either."""
