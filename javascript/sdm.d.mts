@@ -153,6 +153,11 @@ export declare class Supervisor {
   display(reading: Reading): Display;
   /** Why a reading that was judged triggers. CLOSED, OUT_OF_RANGE. */
   causes(reading: Reading): Causes;
+  /** Whether a reading would be covered, if it came next. CLOSED, OUT_OF_RANGE. */
+  wouldCover(reading: Reading): boolean;
+  /** Whether each reading is covered or in release speed monitoring whose max safe front end is from `min_mm` to `max_mm`
+   * of the asked one, and whose speed with the under-reading and acceleration are at most its own. CLOSED, OUT_OF_RANGE. */
+  wouldCoverUpTo(asked: Reading): boolean;
   /** CLOSED, SVL_BEFORE_EOA, BEYOND_TRACK, BAD_SPEED. */
   end(authority: End): void;
   /** CLOSED, SVL_BEFORE_EOA, BEYOND_TRACK, BAD_TRIP. */

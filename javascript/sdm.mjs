@@ -208,6 +208,16 @@ export class Supervisor {
     return causesOf(this.#make("sdm_causes", "read", reading));
   }
 
+  /** Whether a reading would be covered, if it came next. */
+  wouldCover(reading) {
+    return this.#make("sdm_would_cover", "read", reading) === 1;
+  }
+
+  /** Whether each reading up to the asked one, which asks no more, would be covered or in release speed monitoring. */
+  wouldCoverUpTo(asked) {
+    return this.#make("sdm_would_cover_up_to", "read", asked) === 1;
+  }
+
   /** Takes an authority to an end. */
   end(authority) {
     this.#make("sdm_end", "end", authority);

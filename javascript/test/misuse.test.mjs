@@ -17,6 +17,8 @@ const CALLS = {
   cycle: READING,
   display: READING,
   causes: READING,
+  wouldCover: READING,
+  wouldCoverUpTo: READING,
   end: { eoa_cm: 90000, svl_cm: 95000, release_kmh: 0 },
   endCalculated: { eoa_cm: 90000, svl_cm: 95000, trip_cm: 91000 },
   limit: { loa_cm: 90000, speed_kmh: 50 },

@@ -21,6 +21,18 @@ test("the rows of the example are those that are worked by hand", async () => {
   supervisor.close();
 });
 
+test("what would be covered is what is covered then", async () => {
+  // The second reading is 10 mm past its EBI, as README says.
+  const sdm = await library(), { data, records } = await journeyOf("approach"), supervisor = sdm.open(data);
+  for (const [index, covered] of [true, false, true, true].entries()) {
+    const { kind: _, ...reading } = records[index];
+    assert.equal(supervisor.wouldCover(reading), covered);
+    assert.equal(supervisor.wouldCoverUpTo(reading), covered);
+    assert.equal(supervisor.cycle(reading).covered, covered);
+  }
+  supervisor.close();
+});
+
 test("a refusal has its status and changes nothing", async () => {
   const sdm = await library(), { data, records } = await journeyOf("approach"), supervisor = sdm.open(data);
   const { kind: _, ...reading } = records[2];

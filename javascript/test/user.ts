@@ -57,6 +57,8 @@ export function everyCall(library: Library, data: string): [Display, Causes, num
   const row = supervisor.cycle(reading), place = roomLeft(row, reading);
   const state: State = row.state;
   const found: [Display, Causes, number | undefined] = [supervisor.display(reading), supervisor.causes(reading), place];
+  const ahead: boolean = supervisor.wouldCover(reading) && supervisor.wouldCoverUpTo(reading);
+  if (ahead !== row.covered) throw new Error("that can't be");
   supervisor.close();
   if (library.isDropped || library.bytes === 0 || state > State.RELEASE) throw new Error("that can't be");
   return found;
