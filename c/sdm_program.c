@@ -149,23 +149,31 @@ static bool reads(const uint8_t *words, size_t bytes, const char *first) {
     return !is_alone && sdm_command_into(words, bytes, NULL, 0, NULL, 0, &ended) != SDM_CODE_USAGE;
 }
 
+/* Reads the input whole, or so much that it is too long; false where it failed. */
+static bool is_read(void) {
+    ssize_t got = 1;
+    while (got > 0 && input_bytes <= MOST_INPUT) {
+        got = next(input + input_bytes, MOST_INPUT + 1 - input_bytes);
+        input_bytes += got > 0 ? (size_t)got : 0;
+    }
+    return got >= 0;
+}
+
 int main(int count, char **arguments) {
     size_t bytes;
+    int code;
     signal(SIGPIPE, SIG_IGN);
     uint8_t *words = joined(count, arguments, &bytes);
     input = (uint8_t *)malloc(MOST_INPUT + BLOCK);
     if (words == NULL || input == NULL)
-        return no_memory();
-    if (count == 2 && strcmp(arguments[1], "live") == 0)
-        return serve();
-    if (count > 1 && reads(words, bytes, arguments[1])) {
-        ssize_t got = 1;
-        while (got > 0 && input_bytes <= MOST_INPUT) {
-            got = next(input + input_bytes, MOST_INPUT + 1 - input_bytes);
-            input_bytes += got > 0 ? (size_t)got : 0;
-        }
-        if (got < 0)
-            return read_fault();
-    }
-    return answer(words, bytes);
+        code = no_memory();
+    else if (count == 2 && strcmp(arguments[1], "live") == 0)
+        code = serve();
+    else if (count > 1 && reads(words, bytes, arguments[1]) && !is_read())
+        code = read_fault();
+    else
+        code = answer(words, bytes);
+    free(words);
+    free(input);
+    return code;
 }
