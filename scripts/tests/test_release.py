@@ -122,7 +122,8 @@ class Libraries(Scratch):
 class Commands(Scratch):
     """The libraries of every command as a call, over a crate that does nothing."""
 
-    CRATE = "".join(f"unsigned sdm_calls_{name}(void) {{ return 1; }}\n" for name in ("layout", "into", "streams"))
+    NAMES = ["layout", "into", *(f"live_{name}" for name in ("open", "feed", "end", "close"))]
+    CRATE = "".join(f"unsigned sdm_calls_{name}(void) {{ return 1; }}\n" for name in NAMES)
 
     def setUp(self) -> None:
         super().setUp()
