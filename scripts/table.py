@@ -78,7 +78,7 @@ CHECKS: dict[Group, list[Part]] = {
         Part("worked", "product.worked", "runs that were worked by hand"),
         Part("trials", "tries.definitions", "a sample of wrong definitions: the cases that they name refuse them"),
         Part("examples", "product.examples", "the program over each folder of examples/"),
-        Part("edits", "editing.check", "each edit is refused by the goal that its file names"),
+        Part("edits", "editing.check", "each edit is refused by the goal that its file names", 47.4),
     ],
     "elsewhere": [
         Part("processors-all", "processors.check --all", "the library on each processor, in browsers, by npm"),
