@@ -380,7 +380,7 @@ class Gate(OverACopy):
     def test_each_module_with_a_main_is_in_the_table(self) -> None:
         parts = [*chain.from_iterable(CHECKS.values()), *WRITERS, *SHOWN, *TRIES, *OTHERS]
         named = {part.does.split()[0] for part in parts} | {"__main__"}
-        of_bash = {"c.changes", "c.replay", "costs"}  # which scripts/c/check and .ci/run run
+        of_bash = {"c.calls", "c.changes", "c.replay", "costs"}  # which scripts/c/check, check-calls and .ci/run run
         for path in sorted((copies.TOP / "scripts").rglob("*.py")):
             module = ".".join(path.relative_to(copies.TOP / "scripts").with_suffix("").parts)
             if not module.startswith("tests.") and re.search(r"^def main\(", path.read_text(), re.M):
