@@ -19,7 +19,7 @@ from scripts.pages.specs import ROOT
 MOST_WORDS = 40  # in a sentence, or in a part of it up to a semicolon
 MOST_IN_PARAGRAPH = 90
 MOST_IN_README = 700
-MOST_BY_HAND = 56_400  # as `wc -w` counts, in all pages by hand; the aim is 52,000
+MOST_BY_HAND = 56_500  # as `wc -w` counts, in all pages by hand; the aim is 52,000
 SKIPPED = {"vectors/MUTANTS.md"}  # written by a script
 # Pages that aren't counted: runs and vectors, the log of changes, and what scripts write.
 UNCOUNTED_PAGES = re.compile(
