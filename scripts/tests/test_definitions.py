@@ -28,7 +28,10 @@ def error(name: str, why: str, file: str = "StopCases") -> str:
         (error(CASE.name, "as printed, the two types differ"), False),  # with no verdict
         ("only=1 proved=1\n", False),
         ("specs/Reaction.antt:136:16: error: parse error\n", False),
-        ("../sdm_rules/specs/Reaction.antt:9:1: error: `b`: no\n" + error(CASE.name, "the types differ") + ENDED, False),
+        (
+            "../sdm_rules/specs/Reaction.antt:9:1: error: `b`: no\n" + error(CASE.name, "the types differ") + ENDED,
+            False,
+        ),
     ],
 )
 def test_a_case_is_refused_by_its_own_error(said: str, is_refused: bool) -> None:
