@@ -37,6 +37,7 @@ SAMPLE = 12
 MOST_SECONDS = 900
 CASE, LAW = re.compile(r"(\w+) (\w+)::(\S+)"), re.compile(r"(\w+) (\w+)")
 LIBRARY = re.compile(r"^use Rattle\.(\w+)\.", re.M)
+CODE = re.compile(r"^use (?!super|crate)\w+::", re.M)
 IMPORT = r"^use Rattle\.{crate}\.proofs\.(\w+)"
 REFUSED = re.compile(r"^(?:\./)?proofs/(\w+)\.antt:\d+:\d+: error: `([^`]+)`: (.*)$", re.M)
 CITING = """
@@ -104,14 +105,28 @@ def used(case: Case) -> set[str]:
     return named.union(*map(reached, named))
 
 
+def has_code(crate: str) -> bool:
+    """Whether the code of a crate uses others: the copy of such a crate is read whole."""
+    return any(CODE.search(file.read_text()) for file in (CRATES / crate / "src").rglob("*.rt"))
+
+
+def handed(case: Case) -> list[str]:
+    """The libraries of a case's crate that its copy gets: all where the crate has code that uses them."""
+    if has_code(case.crate):
+        return libraries()[case.crate]
+    return [name for name in libraries()[case.crate] if name in used(case)]
+
+
 def between(trial: Edit, case: Case) -> list[str]:
     """The crates that come as sources: that of the definition, and those above it that what refuses it stands on."""
     return sorted(name for name in used(case) if trial.crate == name or trial.crate in reached(name))
 
 
 def cost(trial: Edit) -> int:
-    """What a trial costs, about: the lines of the crates that come as sources."""
-    files = [file for name in between(trial, case_of(trial)) for file in (CRATES / name).rglob("*.antt")]
+    """What a trial costs, about: the lines of the crates that come as sources, and of a crate that is read whole."""
+    case = case_of(trial)
+    read = {*between(trial, case), *([case.crate] if has_code(case.crate) else [])}
+    files = [file for name in read for file in (CRATES / name).rglob("*.antt")]
     return sum(file.stat().st_size for file in files)
 
 
@@ -168,7 +183,7 @@ def said_of(trial: Edit, case: Case) -> str:
             cite(folder, case)
         sources = {name: copied(name, room) for name in between(trial, case)}
         plant(trial, folder if trial.crate == case.crate else sources[trial.crate])
-        command = words(case.crate, sources, [name for name in libraries()[case.crate] if name in used(case)])
+        command = words(case.crate, sources, handed(case))
         command += ["--only", "cites_the_case" if case.file else case.name]
         done = subprocess.run(
             command, cwd=folder, stdin=subprocess.DEVNULL, capture_output=True, text=True, timeout=MOST_SECONDS
