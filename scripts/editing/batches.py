@@ -81,7 +81,7 @@ def has(function: Function, old: str) -> bool:
 
 def trial_of(edit: Edit) -> Trial:
     """An edit with what its file says that refuses it. `rt ci` takes no `old:` text that stands twice in its file."""
-    refuser = by_mark(edit.refuser.function)
+    refuser = by_mark(edit.refuser.function, {change.file for change in edit.changes})
     edit.applied(CRATES / edit.crate, whole(refuser) if refuser and not edit.is_for_rt() else "")
     if not refuser:
         raise Unfit(f"there is no function {edit.refuser.function}")

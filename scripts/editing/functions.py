@@ -2,7 +2,7 @@
 from __future__ import annotations
 
 import re
-from collections.abc import Iterator
+from collections.abc import Collection, Iterator
 from dataclasses import dataclass
 from functools import cache, cached_property
 from pathlib import Path
@@ -160,6 +160,7 @@ def below(crate: str) -> list[set[int]]:
     return reached
 
 
-def by_mark(name: str) -> Function | None:
-    """The function that a mark names."""
-    return next((each for each in functions(name.partition("::")[0]) if each.marked == name), None)
+def by_mark(name: str, files: Collection[str] = ()) -> Function | None:
+    """The function that a mark names. A crate may have several of a name: then one in these files, if one is."""
+    found = [each for each in functions(name.partition("::")[0]) if each.marked == name]
+    return next(iter(sorted(found, key=lambda each: each.file not in files)), None)
