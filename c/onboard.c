@@ -30,14 +30,29 @@ struct onboard {
     struct orders orders;
 };
 
-/* What a row asks for. A row that isn't covered brakes but in release speed monitoring, and so does what was refused,
- * since it isn't supervised. */
-static struct orders orders_of(const struct sdm_row *row, bool is_unsupervised) {
-    bool is_uncovered = !row->covered && row->state != SDM_RELEASE;
+/* What a row asks for. A row that isn't covered brakes, except after a reading that is relied on in release speed
+ * monitoring; and so does what was refused, since it isn't supervised. */
+static struct orders orders_of(const struct sdm_row *row, bool is_relied_on, bool is_unsupervised) {
+    bool is_uncovered = !row->covered && !is_relied_on;
     if (row->eb || is_uncovered || is_unsupervised)
         return BRAKE;
     struct orders orders = {row->tco || row->sb, row->sb != 0, false};
     return orders;
+}
+
+/* The bounds of readings in release speed monitoring: W from the min to the max safe front end, and U by which the train
+ * may get faster than the measured speed until its brake works. */
+enum { WIDTH_CM = 1000, EXCESS_MM_S = 1000 };
+
+/* The guard of release speed monitoring, where no row promises a stop: a reading that finds an untripped train is relied on
+ * where it keeps the bounds and the release speed has a trip place for them. The brake works at most 30 s after its order,
+ * the longest time of the train data: 1 cm/s² gains 300 mm/s until then. A builder has the train's own times. */
+static bool is_relied_on(struct sdm *h, const struct sdm_row *row, const struct sdm_reading *reading) {
+    uint32_t has_place = 0;
+    int64_t gain_mm_s = reading->accel_cm_s2 > 0 ? 300 * (int64_t)reading->accel_cm_s2 : 0;
+    return row->state == SDM_RELEASE && (int64_t)reading->max_mm - reading->min_mm <= 10 * WIDTH_CM &&
+           reading->under_mm_s + gain_mm_s <= EXCESS_MM_S &&
+           sdm_has_trip_place(h, WIDTH_CM, EXCESS_MM_S, &has_place) == SDM_DONE && has_place != 0;
 }
 
 /* The most that a reading may ask until what the next turn orders works, with the traction on: 1 s later, where the train
@@ -70,7 +85,8 @@ static void take_reading(struct onboard *onboard, const struct sdm_reading *read
         onboard->orders = BRAKE;
         return;
     }
-    onboard->orders = orders_of(&row, onboard->is_authority_missing || onboard->is_restriction_missing);
+    onboard->orders = orders_of(&row, is_relied_on(&onboard->supervisor, &row, reading),
+                                onboard->is_authority_missing || onboard->is_restriction_missing);
     if (row.state != SDM_RELEASE && is_gap_ahead(&onboard->supervisor, reading))
         onboard->orders.cuts_traction = true;
     onboard->is_judged = true;

@@ -163,4 +163,4 @@ def below(crate: str) -> list[set[int]]:
 def by_mark(name: str, files: Collection[str] = ()) -> Function | None:
     """The function that a mark names. A crate may have several of a name: then one in these files, if one is."""
     found = [each for each in functions(name.partition("::")[0]) if each.marked == name]
-    return next(iter(sorted(found, key=lambda each: each.file not in files)), None)
+    return min(found, key=lambda each: each.file not in files) if found else None
