@@ -102,7 +102,15 @@ def test_each_trial_can_be_planted() -> None:
         assert each.applied(CRATES / each.crate)
 
 
-def test_the_last_run_of_all_is_of_these_trials() -> None:
-    rows = definitions.RECORD.read_text().splitlines()[1:]
-    assert {row.split(",")[0] for row in rows} == {each.name for each in trials()}
-    assert all(row.split(",")[1] == "yes" for row in rows)
+def test_what_is_recorded_are_trials_that_were_refused() -> None:
+    rows = definitions.recorded()
+    assert {row[0] for row in rows} <= {each.name for each in trials()}
+    assert all(row[1] == "yes" for row in rows)
+
+
+def test_a_run_of_some_keeps_what_is_recorded_of_others(tmp_path: Path, monkeypatch: pytest.MonkeyPatch) -> None:
+    monkeypatch.setattr(definitions, "RECORD", tmp_path / "trials.csv")
+    first, second = trials()[:2]
+    for each in (first, second):
+        definitions.record([definitions.Verdict(each, each is first, "", 1.0)])
+    assert [row[:2] for row in definitions.recorded()] == [[first.name, "yes"], [second.name, "no"]]

@@ -4,8 +4,9 @@
     scripts/house try definitions --sample N       tries the cheapest N
     scripts/house try definitions --of CRATE..     tries those of definitions of these crates
     scripts/house try definitions --only TRIAL..   tries these, each as CRATE/NAME
-    scripts/house try definitions --all            tries all, and writes docs/trials.csv
+    scripts/house try definitions --all            tries all
 
+    --record    writes what came of each that is tried into docs/trials.csv
     --jobs N    so many at a time, 1 where it isn't said
 
 A trial is a file crates/CRATE/wrong-definitions/NAME.trial. Its lines `file:`, `old:` and `new:` are those of an edit
@@ -236,14 +237,21 @@ def tried(trial: Edit) -> Verdict:
 
 
 def record(verdicts: list[Verdict]) -> None:
-    """Writes what came of all trials, with the date and the commit."""
+    """Writes what came of trials into the record of the last run of each, with the date and the commit."""
     told = subprocess.run(["git", "rev-parse", "--short=12", "HEAD"], cwd=ROOT, capture_output=True, text=True)
+    last = {row[0]: row[1:] for row in recorded()}
+    for each in verdicts:
+        verdict = "yes" if each.is_refused else "no"
+        last[each.trial.name] = [verdict, datetime.date.today().isoformat(), told.stdout.strip()]
     with RECORD.open("w", newline="") as file:
         rows = csv.writer(file, lineterminator="\n")
         rows.writerow(["trial", "refused", "date", "commit"])
-        for each in verdicts:
-            today = datetime.date.today().isoformat()
-            rows.writerow([each.trial.name, "yes" if each.is_refused else "no", today, told.stdout.strip()])
+        rows.writerows([trial.name, *last[trial.name]] for trial in trials() if trial.name in last)
+
+
+def recorded() -> list[list[str]]:
+    """The rows of the record, without its head."""
+    return list(csv.reader(RECORD.read_text().splitlines()))[1:] if RECORD.exists() else []
 
 
 def chosen(asked: argparse.Namespace) -> list[Edit]:
@@ -279,13 +287,14 @@ def main(arguments: list[str]) -> int:
     parser.add_argument("--of", nargs="+", metavar="CRATE", default=[])
     parser.add_argument("--only", nargs="+", metavar="TRIAL", default=[])
     parser.add_argument("--all", action="store_true")
+    parser.add_argument("--record", action="store_true")
     parser.add_argument("--jobs", type=int, default=1, metavar="N")
     asked = parser.parse_args(arguments)
     tries = chosen(asked)
     build_libraries(tries)
     with ThreadPoolExecutor(max(1, asked.jobs)) as threads:
         verdicts = list(threads.map(tried, tries))
-    if asked.all:
+    if asked.record:
         record(verdicts)
     refused = sum(each.is_refused for each in verdicts)
     print(f"definitions: {refused} refused, {len(verdicts) - refused} not refused")
