@@ -13,7 +13,7 @@ from pathlib import Path
 from typing import Iterator
 
 TOP = Path(__file__).resolve().parents[2]
-SECONDS = 300  # the longest that a script may take
+SECONDS = 900  # the longest that a script may take, on a machine that others use, too
 
 # The model, with what Python compiles of it beside it: else each of its starts, of which there are hundreds, would
 # compile it anew.

@@ -416,7 +416,9 @@ class Gate(OverACopy):
         tools = self.top / "tools-there"
         tools.mkdir()
         self.assertIn("rt, the toolchain's command", self.set_up(tools, {}))
-        installed = ["rt", "gnuplot", "parallel", "groff", "cc", "valgrind", "black", "flake8", "mypy", "shellcheck"]
+        installed = ["rt", "gnuplot", "groff", "cc", "valgrind", "black", "flake8", "mypy", "shellcheck"]
+        installed += ["wasm2c", "wasm-opt", "node", "qemu-aarch64", "pkg-config", "make", "dpkg-deb"]
+        installed += ["aarch64-linux-gnu-gcc"]
         there = dict.fromkeys(installed, "exit 0") | {"python3": "echo Python 3.9; exit 1"}
         self.assertIn("Python from 3.11 on is needed", self.set_up(tools, there))
 

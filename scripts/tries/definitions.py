@@ -1,6 +1,6 @@
 """Tries wrong definitions: plants each in a copy, and fails where the case that its file names isn't refused.
 
-    scripts/house try definitions                  tries the cheapest twelve
+    scripts/house try definitions                  tries the cheapest nine
     scripts/house try definitions --sample N       tries the cheapest N
     scripts/house try definitions --of CRATE..     tries those of definitions of these crates
     scripts/house try definitions --only TRIAL..   tries these, each as CRATE/NAME
@@ -34,7 +34,7 @@ from scripts.editing.provers import copied, libraries, reached, words
 from scripts.pages.specs import CRATES, ROOT, crates
 
 FOLDER, RECORD = "wrong-definitions", ROOT / "docs" / "trials.csv"
-SAMPLE = 12
+SAMPLE = 9
 MOST_SECONDS = 900
 CASE, LAW = re.compile(r"(\w+) (\w+)::(\S+)"), re.compile(r"(\w+) (\w+)")
 LIBRARY = re.compile(r"^use Rattle\.(\w+)\.", re.M)
