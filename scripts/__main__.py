@@ -114,7 +114,7 @@ def main(words: list[str]) -> int:
             return one(SHOWN, rest)
         case ["try", *rest]:
             return one(TRIES, rest)
-        case ["program" | "library" | "release", *_]:
+        case [name, *_] if name in {part.name for part in OTHERS}:
             return one(OTHERS, words)
     print(listed())
     return int(words not in ([], ["--help"]))

@@ -412,6 +412,11 @@ class Gate(OverACopy):
                 more = ["--journeys", "1"] if script == "model" else []
                 self.assertIn("no tests ran", self.told("scripts/house", "check", script, *more))
 
+    def test_each_other_part_is_reached_by_its_name(self) -> None:
+        for part in OTHERS:
+            _, told = copies.ended(self.top, "scripts/house", part.name, "no-such-word")
+            self.assertNotIn("scripts/house check [NAME..]", told, part.name)
+
     def test_setup_tells_what_it_can_not_install(self) -> None:
         tools = self.top / "tools-there"
         tools.mkdir()
