@@ -11,6 +11,8 @@ import sys
 from fractions import Fraction
 from pathlib import Path
 
+from sdm.errors import FormError
+from sdm.laboratory.comparison import tolerances
 from sdm.laboratory.program import Fault, Result, add_program, built, run
 from sdm.laboratory.walk import modelled, read, write
 
@@ -28,7 +30,7 @@ def recorded_of(words: argparse.Namespace) -> Recorded | None:
     if words.recording is None:
         return None
     mapping = source_of(words.mapping) if words.mapping else None
-    return Recorded(source_of(words.recording), mapping, {"mm": words.mm, "km/h": words.kmh, "ds": words.ds})
+    return Recorded(source_of(words.recording), mapping, words.allowed)
 
 
 def result_of(words: argparse.Namespace, source: Source) -> tuple[Result, str]:
@@ -81,6 +83,10 @@ def words_of(args: list[str]) -> argparse.Namespace:
         parser.error("--diagnose is of a recording, which --recording names")
     if words.mapping and not words.recording:
         parser.error("--mapping is of a recording, which --recording names")
+    try:
+        words.allowed = tolerances(words.mm, words.kmh, words.ds)
+    except FormError as why:
+        parser.error(str(why))
     return words
 
 

@@ -214,6 +214,17 @@ class Journeys(InAFolder):
         Page(told)
 
 
+class Tolerances(InAFolder):
+    def test_one_below_0_is_refused_by_its_name(self):
+        for name, least in (("mm", "-1"), ("kmh", "-1/2"), ("ds", "-1")):
+            with self.subTest(name):
+                code, out, err = tool(
+                    "report", EXAMPLES / "approach/input", self.room / "page.html", f"--{name}={least}"
+                )
+                self.assertEqual((code, out), (2, ""))
+                self.assertIn(f"{name} is {least}, expected a number from 0 on", err)
+
+
 class Pages(InAFolder):
     def test_a_page_stands_by_itself(self):
         text = self.compared("recording", "--mm", "1000")

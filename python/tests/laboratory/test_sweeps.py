@@ -181,7 +181,11 @@ class Ends(unittest.TestCase):
             sdm.sweep({{"x": 1}}, slow, ({{"x": x}} for x in itertools.count(1)), processes=3, progress=False)
         """
         begun = subprocess.Popen(
-            [sys.executable, "-c", textwrap.dedent(script)], stdout=subprocess.PIPE, stderr=subprocess.PIPE, text=True
+            [sys.executable, "-c", textwrap.dedent(script)],
+            stdout=subprocess.PIPE,
+            stderr=subprocess.PIPE,
+            text=True,
+            preexec_fn=lambda: signal.signal(signal.SIGINT, signal.SIG_DFL),  # a shell's background ignores it
         )
         self.addCleanup(begun.stdout.close)
         self.addCleanup(begun.stderr.close)
