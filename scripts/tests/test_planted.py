@@ -25,7 +25,7 @@ class Fault(NamedTuple):
 # What the copies for a check have of the repository: what it reads.
 SPECS = ["docs", "scripts", "crates.txt", "crates/*/src/*", "crates/*/specs/*"]
 PARTS: dict[str, list[str]] = {
-    "believed": [*SPECS, "c/*.h"],
+    "believed": [*SPECS, "c/*.h", "c/sdm_calls.c"],
     "clauses": ["docs", "scripts"],
     "crates": ["docs", "scripts", "crates.txt"],
     "definitions": [*SPECS, "crates/*/proofs/*Cases.antt"],
@@ -43,9 +43,11 @@ PARTS: dict[str, list[str]] = {
         "CHANGELOG.md",
         "README.md",
         "c/sdm.h",
+        "c/sdm_calls.h",
         "docs/commands.toml",
         "docs/sdm.1",
         "docs/sdm.h.3",
+        "docs/sdm_calls.h.3",
         "crates/sdm_words/src",
         "scripts",
     ],
