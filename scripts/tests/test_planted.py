@@ -439,7 +439,7 @@ def test_a_fault_is_told(ends: list[Future[tuple[int, str]]], number: int, scrip
 
 # These are tried over a program or a library, by test_program.py and test_bounds.py, or by hand.
 ELSEWHERE = set("model upgrade tour certificates compilers edits bounds worked examples live c library".split())
-ELSEWHERE |= {"rides", "refused", "trials", "processors", "processors-all"}
+ELSEWHERE |= {"calls", "rides", "refused", "trials", "processors", "processors-all"}
 
 
 def test_each_check_has_two_faults() -> None:
